@@ -1,0 +1,5 @@
+pub mod DecimalLaws
+pub mod PrintLaws
+pub mod PrintedDigits
+pub mod QuotientLaws
+pub mod RomanLaws
