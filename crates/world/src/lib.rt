@@ -1,0 +1,21 @@
+//! The world outside of TeX, as files and a terminal behind one trait, and the printer that makes
+//! the terminal's text (tex.web parts 3, 5 and 29 in this program's form).
+#![tactic(auto)]
+
+mod files;
+mod folder;
+mod honest;
+mod laws;
+mod printer;
+mod strip;
+mod target;
+#[cfg(test)]
+mod tests;
+mod world;
+
+pub use folder::DirWorld;
+pub use honest::HonestWorld;
+pub use laws::printing_laws;
+pub use printer::Printer;
+pub use target::Target;
+pub use world::{World, WorldError, is_good_name};
