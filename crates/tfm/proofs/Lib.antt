@@ -1,0 +1,4 @@
+pub mod ChainLemmas
+pub mod LoopLemmas
+pub mod ProgramLemmas
+pub mod TableLemmas

@@ -1,0 +1,10 @@
+pub mod FontMetricsErrors
+pub mod FontMetricsBytes
+pub mod FontMetricsLengths
+pub mod FontMetricsFixwords
+pub mod FontMetricsCharacters
+pub mod FontMetricsFaults
+pub mod FontMetrics
+pub mod FontMetricsPrograms
+pub mod FontMetricsLaws
+pub mod FontMetricsLoops
