@@ -1,0 +1,5 @@
+pub mod Borrowed
+pub mod Search
+pub mod Linking
+pub mod Interning
+pub mod Parts

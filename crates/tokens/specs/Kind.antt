@@ -1,0 +1,119 @@
+-- The troubles of a document: their numbers and messages. The messages are those of tex.web's error
+-- reports, in the words of this program, with one open place for each text that a kind carries.
+use Rattle.std.specs.Prelude.{ℕ, List, ◌++◌, codes}
+use Rattle.tokens.specs.declared.kind.Kind.{Kind}
+use Rattle.tokens.specs.declared.kind.Kind.TheVariants.{UndefinedCs, TooManyRightBraces, GroupMismatch, ExtraFi, ExtraElse, ExtraOr, BadRegister, MissingNumber, NumberTooBig, DimensionTooLarge, BadUnit, ArithOverflow, MissingParenthesis, IncompatibleGlue, UseDoesntMatch, ExtraBrace, ParagraphEnded, FileEnded, ForbiddenOuter, MissingEndcsname, MissingLeftBrace, BadParameter, MissingName, MissingRelation, MissingTo, MissingFont, InvalidChar, BadCode, BadCharCode, BadPrefix, CantUse, WrongMode, FileNotFound, BadName, FontNotLoadable, BadFontSize, BadFontdimen, BadMag, NotABox, LeadersNoGlue, IncompatibleList, VsplitNeedsVbox, InsertIntoHbox, InsertBox255, VoidNeeded, BadDiscretionary, CantDelete, InfiniteShrink, HugePage, DeadCycles, NoEnd, UserMessage, UnbalancedWrite, LeftOut}
+
+-- the place of a kind in this list, counted from 1
+abbrev pub kind_number : Kind → ℕ
+kind_number (UndefinedCs _) = 1
+kind_number TooManyRightBraces = 2
+kind_number GroupMismatch = 3
+kind_number ExtraFi = 4
+kind_number ExtraElse = 5
+kind_number ExtraOr = 6
+kind_number (BadRegister _) = 7
+kind_number MissingNumber = 8
+kind_number NumberTooBig = 9
+kind_number DimensionTooLarge = 10
+kind_number BadUnit = 11
+kind_number ArithOverflow = 12
+kind_number MissingParenthesis = 13
+kind_number IncompatibleGlue = 14
+kind_number (UseDoesntMatch _) = 15
+kind_number (ExtraBrace _) = 16
+kind_number (ParagraphEnded _) = 17
+kind_number FileEnded = 18
+kind_number (ForbiddenOuter _) = 19
+kind_number MissingEndcsname = 20
+kind_number MissingLeftBrace = 21
+kind_number BadParameter = 22
+kind_number MissingName = 23
+kind_number MissingRelation = 24
+kind_number MissingTo = 25
+kind_number MissingFont = 26
+kind_number InvalidChar = 27
+kind_number (BadCode _) = 28
+kind_number (BadCharCode _) = 29
+kind_number (BadPrefix _) = 30
+kind_number (CantUse _) = 31
+kind_number (WrongMode _ _) = 32
+kind_number (FileNotFound _) = 33
+kind_number (BadName _) = 34
+kind_number (FontNotLoadable _ _) = 35
+kind_number BadFontSize = 36
+kind_number (BadFontdimen _) = 37
+kind_number (BadMag _) = 38
+kind_number NotABox = 39
+kind_number LeadersNoGlue = 40
+kind_number IncompatibleList = 41
+kind_number VsplitNeedsVbox = 42
+kind_number InsertIntoHbox = 43
+kind_number InsertBox255 = 44
+kind_number VoidNeeded = 45
+kind_number BadDiscretionary = 46
+kind_number (CantDelete _) = 47
+kind_number InfiniteShrink = 48
+kind_number HugePage = 49
+kind_number (DeadCycles _) = 50
+kind_number NoEnd = 51
+kind_number (UserMessage _) = 52
+kind_number UnbalancedWrite = 53
+kind_number (LeftOut _) = 54
+
+-- the message of a kind, without the exclamation mark in front and the full stop behind
+abbrev pub kind_text : Kind → List ℕ
+kind_text (UndefinedCs word) = codes "Undefined control sequence: " ++ word
+kind_text TooManyRightBraces = codes "Too many }'s"
+kind_text GroupMismatch = codes "Group ended by the wrong command"
+kind_text ExtraFi = codes "Extra \\fi"
+kind_text ExtraElse = codes "Extra \\else"
+kind_text ExtraOr = codes "Extra \\or"
+kind_text (BadRegister word) = codes "Bad register code: " ++ word
+kind_text MissingNumber = codes "Missing number"
+kind_text NumberTooBig = codes "Number too big"
+kind_text DimensionTooLarge = codes "Dimension too large"
+kind_text BadUnit = codes "Illegal unit of measure"
+kind_text ArithOverflow = codes "Arithmetic overflow"
+kind_text MissingParenthesis = codes "Missing ) in an expression"
+kind_text IncompatibleGlue = codes "Incompatible glue units"
+kind_text (UseDoesntMatch word) = codes "Use of " ++ word ++ codes " doesn't match its definition"
+kind_text (ExtraBrace word) = codes "Argument of " ++ word ++ codes " has an extra }"
+kind_text (ParagraphEnded word) = codes "Paragraph ended before " ++ word ++ codes " was complete"
+kind_text FileEnded = codes "File ended while scanning"
+kind_text (ForbiddenOuter word) = codes "Forbidden control sequence found: " ++ word
+kind_text MissingEndcsname = codes "Missing \\endcsname"
+kind_text MissingLeftBrace = codes "Missing {"
+kind_text BadParameter = codes "Bad parameter text"
+kind_text MissingName = codes "Missing control sequence"
+kind_text MissingRelation = codes "Missing relation"
+kind_text MissingTo = codes "Missing to"
+kind_text MissingFont = codes "Missing font identifier"
+kind_text InvalidChar = codes "Text line contains an invalid character"
+kind_text (BadCode word) = codes "Invalid code: " ++ word
+kind_text (BadCharCode word) = codes "Bad character code: " ++ word
+kind_text (BadPrefix word) = codes "You can't use a prefix with " ++ word
+kind_text (CantUse word) = codes "You can't use " ++ word ++ codes " here"
+kind_text (WrongMode first second) = codes "You can't use " ++ first ++ codes " in " ++ second
+kind_text (FileNotFound word) = codes "File not found: " ++ word
+kind_text (BadName word) = codes "Bad file name: " ++ word
+kind_text (FontNotLoadable first second) = codes "Font " ++ first ++ codes " not loadable: " ++ second
+kind_text BadFontSize = codes "Improper font size"
+kind_text (BadFontdimen word) = codes "Bad font parameter: " ++ word
+kind_text (BadMag word) = codes "Illegal magnification: " ++ word
+kind_text NotABox = codes "A box was supposed to be here"
+kind_text LeadersNoGlue = codes "Leaders not followed by proper glue"
+kind_text IncompatibleList = codes "Incompatible list can't be unboxed"
+kind_text VsplitNeedsVbox = codes "\\vsplit needs a \\vbox"
+kind_text InsertIntoHbox = codes "Insertions can only be added to a vbox"
+kind_text InsertBox255 = codes "You can't insert 255"
+kind_text VoidNeeded = codes "Box 255 is not void"
+kind_text BadDiscretionary = codes "Improper discretionary list"
+kind_text (CantDelete word) = codes "You can't use " ++ word ++ codes " on the current page"
+kind_text InfiniteShrink = codes "Infinite glue shrinkage"
+kind_text HugePage = codes "Huge page cannot be shipped out"
+kind_text (DeadCycles word) = codes "Output loop: " ++ word ++ codes " consecutive dead cycles"
+kind_text NoEnd = codes "No \\end found"
+kind_text (UserMessage word) = word
+kind_text UnbalancedWrite = codes "Unbalanced write command"
+kind_text (LeftOut word) = codes "Left out: " ++ word

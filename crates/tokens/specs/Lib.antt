@@ -1,0 +1,16 @@
+pub mod Stop
+pub mod Kind
+pub mod Cap
+pub mod Ends
+pub mod Wording
+pub mod Token
+pub mod Same
+pub mod Shared
+pub mod TokenList
+pub mod Meaning
+pub mod Primitives
+pub mod Names
+pub mod Buckets
+pub mod TokenText
+pub mod Categories
+pub mod Budget
