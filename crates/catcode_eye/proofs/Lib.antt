@@ -1,0 +1,5 @@
+pub mod Trimmed
+pub mod Marks
+pub mod LetterRows
+pub mod Taking
+pub mod Shortening

@@ -1,0 +1,9 @@
+pub mod Shorter
+pub mod Lines
+pub mod Superscripts
+pub mod Role
+pub mod Seen
+pub mod Outlook
+pub mod Glance
+pub mod Sighting
+pub mod Progress
