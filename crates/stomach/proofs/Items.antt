@@ -1,0 +1,106 @@
+-- A list that stands with its front at the end of a vector.
+use Rattle.std.proofs.Common.{◌≡◌, ℕ, ℤ, ◌+◌, ◌<◌, List, [], ◌∷◌, ◌++◌, Option, Some, None, Result, Ok, Err, ap, ◌∙◌, sym, refl, length, take, drop, get_or, set, arith, zero, suc, length-set, ◌-◌, ◌≤◌}
+use Rattle.std.specs.Prelude.{reverse, Bool}
+use Rattle.std.proofs.lemmas.List.{reverse-append, take_all}
+use Rattle.std.proofs.Math.Seq.{take-suc, take-suc-set}
+use Rattle.tokens.specs.Budget.{Allowance}
+use Rattle.tokens.specs.declared.stop.Stop.{Stop}
+use Rattle.tokens.specs.declared.token.Token.{Token}
+use Rattle.catcode_eye.specs.Outlook.{Outlook}
+use Rattle.stomach.specs.declared.pending.Event.{Event}
+use Rattle.stomach.specs.declared.pending.Event.TheVariants.{Token as TokenEvent, SourceEnd, Empty}
+use Rattle.stomach.specs.declared.pending.Item.{Item}
+use Rattle.stomach.specs.declared.pending.Item.TheVariants.{Back, From}
+use Rattle.stomach.specs.declared.source.Source.{Source}
+use Rattle.world.specs.Output.{Output}
+use Rattle.stomach.specs.Ending.{files_closed}
+use Rattle.stomach.specs.Did.{Did, Does, Ended, Ended-by}
+use Rattle.stomach.specs.Pending.{Reading, reading, event_of, next_event, by_token, begun_by, begun_behind_word, with_source}
+use Rattle.stomach.specs.Take.{looking, token_from, line_behind_word}
+
+-- what is put at the last place comes first where the list is reversed
+pub reverse_set : {X : Type 0} (n : ℕ) (xs : List X) (y : X) → n + 1 ≡ length xs → reverse (set xs n y) ≡ y ∷ reverse (take n xs)
+reverse_set {X} n xs y e =
+    let below : n < length xs = omega arith in
+    let all : take (suc n) (set xs n y) ≡ set xs n y = take_all (suc n) (set xs n y) (omega (arith, length-set xs n y)) in
+    ap reverse (sym all ∙ take-suc-set xs n y below) ∙ reverse-append (take n xs) (y ∷ [])
+
+-- so does what stands there
+pub reverse_last : {X : Type 0} (n : ℕ) (xs : List X) (x : X) → n + 1 ≡ length xs → x ≡ get_or xs n x → reverse xs ≡ x ∷ reverse (take n xs)
+reverse_last {X} n xs x e h =
+    let below : n < length xs = omega arith in
+    let all : take (suc n) xs ≡ xs = take_all (suc n) xs (omega arith) in
+    ap reverse (sym all ∙ take-suc xs n x below) ∙ reverse-append (take n xs) (get_or xs n x ∷ []) ∙ ap (λ (z : X). z ∷ reverse (take n xs)) (sym h)
+
+-- the files of an item, and those behind it
+files_closed-item : (x : Item) (rest : List Item) (o : Output) → files_closed (x ∷ rest) o ≡ files_closed rest (files_closed (x ∷ []) o)
+files_closed-item (Back token) rest o = refl
+files_closed-item (From source) rest o = refl
+
+-- one more item of a list whose front stands at the end
+pub files_closed-step : (xs : List Item) (n : ℕ) (x : Item) (o p : Output) → 0 < n → n ≤ length xs → x ≡ get_or xs (n - 1) x
+    → p ≡ files_closed (x ∷ []) o → files_closed (reverse (take (n - 1) xs)) p ≡ files_closed (reverse (take n xs)) o
+files_closed-step xs zero x o p above inside here e = absurd (omega arith)
+files_closed-step xs (suc m) x o p above inside here e =
+    let one : suc m - 1 ≡ m = omega arith in
+    let here' : x ≡ get_or xs m x = rw one at here in
+    let split : take (suc m) xs ≡ take m xs ++ (get_or xs m x ∷ []) = take-suc xs m x (omega arith) in
+    let front : reverse (take (suc m) xs) ≡ x ∷ reverse (take m xs) =
+    ap reverse split ∙ reverse-append (take m xs) (get_or xs m x ∷ []) ∙ ap (λ (z : Item). z ∷ reverse (take m xs)) (sym here') in
+    rw one (ap (files_closed (reverse (take m xs))) e ∙ sym (files_closed-item x (reverse (take m xs)) o)
+    ∙ ap (λ (l : List Item). files_closed l o) (sym front))
+
+module _ (cats : List ℕ) (endline : ℤ) (items : List Item) (n : ℕ) (source : Source) (eye : Outlook)
+    (names then_names : List (List ℕ)) (budget then_budget : Allowance) where
+  -- a source that stays
+  stays : Item
+  stays = From (record { eye = eye; is_file = source.is_file })
+
+  -- the next event of a list with the source at its end, by what comes from the source
+  pub next_of-source : n + 1 ≡ length items → From source ≡ get_or items n (From source)
+      → next_event cats endline (reading (reverse items) names budget)
+      ≡ by_token source.is_file (reverse (take n items)) (token_from cats endline (looking source.eye names budget))
+  next_of-source e h =
+      ap (λ (p : List Item). event_of cats endline p (reading p names budget)) (reverse_last n items (From source) e h)
+
+  pub next_of-token : (token : Token) → n + 1 ≡ length items → From source ≡ get_or items n (From source)
+      → token_from cats endline (looking source.eye names budget) ≡ Ok (Some token, looking eye then_names then_budget)
+      → next_event cats endline (reading (reverse items) names budget)
+      ≡ Ok (TokenEvent token, reading (reverse (set items n (From (record { eye = eye; is_file = source.is_file })))) then_names then_budget)
+  next_of-token token e h t =
+      next_of-source e h ∙ ap (by_token source.is_file (reverse (take n items))) t
+      ∙ ap (λ (p : List Item). Ok (TokenEvent token, reading p then_names then_budget)) (sym (reverse_set n items (From (record { eye = eye; is_file = source.is_file })) e))
+
+  pub next_of-end : (rest : List Item) → n + 1 ≡ length items → From source ≡ get_or items n (From source)
+      → token_from cats endline (looking source.eye names budget) ≡ Ok (None, looking eye then_names then_budget)
+      → rest ≡ drop 1 (reverse (set items n (From (record { eye = eye; is_file = source.is_file }))))
+      → next_event cats endline (reading (reverse items) names budget) ≡ Ok (SourceEnd source.is_file, reading rest then_names then_budget)
+  next_of-end rest e h t r =
+      next_of-source e h ∙ ap (by_token source.is_file (reverse (take n items))) t
+      ∙ ap (λ (p : List Item). Ok (SourceEnd source.is_file, reading p then_names then_budget))
+      (sym (r ∙ ap (drop 1) (reverse_set n items (From (record { eye = eye; is_file = source.is_file })) e)))
+
+  pub next_of-stop : (stop : Stop) → n + 1 ≡ length items → From source ≡ get_or items n (From source)
+      → Ended stop (looking eye then_names then_budget) (token_from cats endline (looking source.eye names budget))
+      → Ended stop (reading (reverse (set items n (From (record { eye = eye; is_file = source.is_file })))) then_names then_budget)
+      (next_event cats endline (reading (reverse items) names budget))
+  next_of-stop stop e h t = Ended-by stop _ _ (token_from cats endline (looking source.eye names budget)) _
+      (λ m. next_of-source e h ∙ ap (by_token source.is_file (reverse (take n items))) m
+      ∙ ap (λ (p : List Item). Err (stop, reading p then_names then_budget)) (sym (reverse_set n items (From (record { eye = eye; is_file = source.is_file })) e))) t
+
+  pub begin_of-source : n + 1 ≡ length items → From source ≡ get_or items n (From source)
+      → begun_behind_word endline (reading (reverse items) names budget)
+      ≡ with_source source.is_file (reverse (take n items)) (line_behind_word endline (looking source.eye names budget))
+  begin_of-source e h =
+      ap (λ (p : List Item). begun_by endline p (reading p names budget)) (reverse_last n items (From source) e h)
+
+  pub begin_of-does : (result : Result (Unit {0}) Stop) → n + 1 ≡ length items → From source ≡ get_or items n (From source)
+      → Does result (looking eye then_names then_budget) (line_behind_word endline (looking source.eye names budget))
+      → Does result (reading (reverse (set items n (From (record { eye = eye; is_file = source.is_file })))) then_names then_budget)
+      (begun_behind_word endline (reading (reverse items) names budget))
+  begin_of-does (Ok done) e h t =
+      begin_of-source e h ∙ ap (with_source source.is_file (reverse (take n items))) t
+      ∙ ap (λ (p : List Item). Ok (done, reading p then_names then_budget)) (sym (reverse_set n items (From (record { eye = eye; is_file = source.is_file })) e))
+  begin_of-does (Err stop) e h t = Ended-by stop _ _ (line_behind_word endline (looking source.eye names budget)) _
+      (λ m. begin_of-source e h ∙ ap (with_source source.is_file (reverse (take n items))) m
+      ∙ ap (λ (p : List Item). Err (stop, reading p then_names then_budget)) (sym (reverse_set n items (From (record { eye = eye; is_file = source.is_file })) e))) t

@@ -1,0 +1,5 @@
+pub mod Looking
+pub mod Items
+pub mod Falls
+pub mod NameFalls
+pub mod MessageFalls

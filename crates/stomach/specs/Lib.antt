@@ -1,0 +1,17 @@
+pub mod Did
+pub mod Again
+pub mod FileName
+pub mod Command
+pub mod Report
+pub mod Take
+pub mod Pending
+pub mod Operand
+pub mod Work
+pub mod Name
+pub mod Outside
+pub mod Catcode
+pub mod Message
+pub mod Input
+pub mod Turn
+pub mod Ending
+pub mod Machine

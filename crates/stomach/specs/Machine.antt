@@ -1,0 +1,44 @@
+-- The whole run: its beginning, turn after turn, and its ending. It is a function of the files outside,
+-- of the fetch that fails, of the first line and of the number of steps that it may take.
+use Rattle.std.specs.Prelude.{ℕ, ℤ, pos, negsuc, Bool, true, false, not, ◌==◌, if◌then◌else◌, Option, None, List, [], ◌∷◌}
+use Rattle.tokens.specs.Budget.{unused}
+use Rattle.tokens.specs.Categories.{initial_categories}
+use Rattle.tokens.specs.Primitives.{primitive_names}
+use Rattle.catcode_eye.specs.Lines.{source_lines}
+use Rattle.catcode_eye.specs.Outlook.{before_lines}
+use Rattle.world.specs.Output.{nothing_yet}
+use Rattle.stomach.specs.declared.pending.Item.TheVariants.{From}
+use Rattle.stomach.specs.declared.state.State.{State}
+use Rattle.stomach.specs.Again.{again}
+use Rattle.stomach.specs.Did.{Did}
+use Rattle.stomach.specs.Ending.{Outcome, outcome_of}
+use Rattle.stomach.specs.Outside.{Outside}
+use Rattle.stomach.specs.Turn.{turn}
+use Rattle.stomach.specs.Work.{work}
+
+-- whether the first line names a file: it isn't empty, and doesn't begin with an escape character
+abbrev pub begins_with_name : List ℕ → Bool
+begins_with_name [] = false
+begins_with_name (byte ∷ rest) = not (byte == 92)
+
+-- the state with which a run begins
+unfoldable pub beginning : List ℕ → ℕ → State
+beginning line budget = record {
+  names = primitive_names;
+  categories = initial_categories;
+  pending = From (record { eye = before_lines (source_lines (negsuc 0) true line); is_file = false }) ∷ [];
+  printer = nothing_yet;
+  budget = unused budget;
+  names_file = begins_with_name line;
+  job = [];
+  asked = [];
+  fetches = 0;
+}
+
+-- the turns of a run, until it ends
+unfoldable pub turns : Outside → State → Did State (Unit {0})
+turns outside s = again work (turn outside) s
+
+-- the run on a first line
+unfoldable pub run : Outside → List ℕ → ℕ → Outcome
+run outside line budget = outcome_of (turns outside (beginning line budget))

@@ -1,0 +1,7 @@
+-- How much a run can still do: each step that is left, each token that was put back, each source, and the
+-- name that is still to be read.
+use Rattle.std.specs.Prelude.{ℕ, ◌+◌, ◌*◌, if◌then◌else◌, length}
+use Rattle.stomach.specs.declared.state.State.{State}
+
+abbrev pub work : State → ℕ
+work s = 2 * s.budget.left + length s.pending + (if s.names_file then 3 else 0)

@@ -1,0 +1,25 @@
+//! The run of TeX: the state that it keeps, what each command does to it, and its endings
+//! (The TeXbook, chapters 13 and 24; `tex.web`, parts 46 to 51).
+#![tactic(auto)]
+
+pub use ending::Exit;
+pub use machine::{Ended, Machine, Start};
+pub use pending::{Item, Pending};
+pub use source::Source;
+pub use state::State;
+
+mod catcode;
+mod command;
+mod ending;
+mod file_name;
+mod input;
+mod machine;
+mod message;
+mod name;
+mod operand;
+mod pending;
+mod report;
+mod source;
+mod start_values;
+mod state;
+mod turn;

@@ -1,0 +1,137 @@
+//! The machine: a whole run, from its first line to its last (`tex.web` 1332).
+ghost use Rattle.std.specs.Prelude.{◌≡◌, IfOk};
+ghost use Rattle.stomach.specs.Machine.{begins_with_name, beginning};
+
+use crate::ending::{Exit, exit_of};
+use crate::pending::Pending;
+use crate::source::Source;
+use crate::state::State;
+use catcode_eye::Eye;
+use std::alloc::{AllocError, Global};
+use std::marker::Model;
+use tokens::{Budget, CatTable, Stop, Text, primitive_table};
+use world::{Printer, World, WorldError};
+
+/// With what a run begins.
+#[derive(Drop)]
+pub struct Start {
+    /// The first line, without its asterisk.
+    pub line: Vec<u8>,
+    /// How many steps the run may take.
+    pub budget: u64,
+}
+
+/// How a run ended.
+#[derive(Clone, Copy, Debug, PartialEq, Eq)]
+pub struct Ended {
+    pub exit: Exit,
+    /// How many steps it took.
+    pub steps: u64,
+}
+
+/// A run of TeX.
+#[derive(Drop)]
+pub struct Machine {
+    alloc: Global,
+    state: State,
+}
+
+impl Model for Machine {
+    ghost use Rattle.stomach.specs.declared.state.State.{State};
+
+    ghost Value = { State };
+
+    ghost view = { λ machine. machine.state };
+}
+
+impl Machine {
+    /// The machine before its first turn.
+    pub fn new(alloc: Global, start: Start) -> Result<Machine, AllocError>
+        ensures begins { IfOk result (λ machine. machine ≡ beginning start.line.items start.budget) }
+    {
+        let state = beginning(alloc, start.line, start.budget)?;
+        Ok(Machine { alloc, state })
+    }
+
+    /// One turn. The answer is false exactly at the end of the run.
+    pub fn step<W: World>(&mut self, world: &mut W) -> Result<bool, Stop>
+        ensures silent { W.write_faults world.new ≡ W.write_faults world.old }
+    {
+        self.state.turn(self.alloc, world)
+    }
+
+    /// All turns, and the ending.
+    pub fn run<W: World>(mut self, world: &mut W) -> Ended {
+        let ending = self.turns(world);
+        let exit = self.conclude(ending);
+        let exit = match self.state.printer.flush(world) {
+            Ok(()) => exit,
+            Err(WorldError::Failed) => Exit::WriteFault,
+            Err(WorldError::OutOfMemory) => Exit::OutOfMemory,
+        };
+        let steps = self.state.budget.used();
+        Ended { exit, steps }
+    }
+
+    /// All turns. Each takes a step, or makes the list shorter of what is still to be read.
+    fn turns<W: World>(&mut self, world: &mut W) -> Result<(), Stop> {
+        for _ in 0..u64::MAX {
+            match self.step(world) {
+                Ok(true) => {}
+                Ok(false) => return Ok(()),
+                Err(stop) => return Err(stop),
+            }
+        }
+        Err(Stop::Spent)
+    }
+
+    /// Shows the ending, and tells the exit.
+    fn conclude(&mut self, ending: Result<(), Stop>) -> Exit {
+        match ending {
+            Ok(()) => match self.state.end_well() {
+                Ok(()) => Exit::Done,
+                Err(_) => Exit::OutOfMemory,
+            },
+            Err(Stop::OutOfMemory) => Exit::OutOfMemory,
+            Err(stop) => match self.state.end_early(self.alloc, &stop) {
+                Ok(()) => exit_of(&stop),
+                Err(_) => Exit::OutOfMemory,
+            },
+        }
+    }
+}
+
+/// The state with which a run begins.
+#[tactic(auto, unfolding(crate::specs::Machine::beginning))]
+fn beginning(alloc: Global, line: Vec<u8>, budget: u64) -> Result<State, AllocError>
+    ensures begins { IfOk result (λ state. state ≡ beginning line.items budget) }
+{
+    let names_file = begins_with_name(&line);
+    let eye = Eye::new(alloc, line, -1, true);
+    let mut pending = Pending::new(alloc);
+    pending.read_from(Source {
+        eye,
+        is_file: false,
+    })?;
+    Ok(State {
+        names: primitive_table(alloc)?,
+        categories: CatTable::initial(),
+        pending,
+        printer: Printer::new(alloc),
+        budget: Budget::new(budget),
+        names_file,
+        job: Text::new(Vec::new(alloc)),
+        asked: Text::new(Vec::new(alloc)),
+        fetches: 0,
+    })
+}
+
+/// Whether the first line names a file: it isn't empty, and doesn't begin with an escape character.
+fn begins_with_name(line: &[u8]) -> bool
+    ensures value { result ≡ begins_with_name line.now }
+{
+    match line {
+        [] => false,
+        [first, ..] => *first != b'\\',
+    }
+}
