@@ -1,7 +1,7 @@
 -- How the work of a run falls: each token that is taken spends a step or one that was put back, and each
 -- source that ends is gone.
-use Rattle.std.proofs.Common.{◌≡◌, ℕ, ℤ, ◌+◌, ◌*◌, ◌<◌, ◌≤◌, true, false, List, [], ◌∷◌, Option, Some, None, Result, Ok, Err, ap, ◌∙◌, sym, refl, length, arith, subst}
-use Rattle.std.specs.Prelude.{Bool, if◌then◌else◌, ◌==◌, nat_lt}
+use Rattle.std.proofs.Common.{◌≡◌, ℕ, ℤ, ◌+◌, ◌*◌, ◌<◌, ◌≤◌, true, false, List, [], ◌∷◌, Option, Some, None, Result, Ok, Err, refl, length, arith, subst}
+use Rattle.std.specs.Prelude.{Bool, if◌then◌else◌, ◌==◌}
 use Rattle.std.proofs.lemmas.Bool.{eqb-false}
 use Rattle.tokens.specs.Budget.{Allowance, is_spent, after_step}
 use Rattle.tokens.specs.declared.stop.Stop.{Stop}
@@ -9,17 +9,16 @@ use Rattle.tokens.specs.declared.stop.Stop.TheVariants.{Spent}
 use Rattle.tokens.specs.declared.token.Token.{Token}
 use Rattle.catcode_eye.specs.declared.seen.Seen.{Seen}
 use Rattle.catcode_eye.specs.declared.seen.Seen.TheVariants.{Char, Active, Word, Par, LineEnd}
-use Rattle.catcode_eye.specs.declared.seen.State.{State as EyeState}
-use Rattle.catcode_eye.specs.Outlook.{Outlook, next_seen, next_line, with_line, with_sight}
+use Rattle.catcode_eye.specs.Outlook.{Outlook, next_seen, next_line}
 use Rattle.stomach.specs.declared.pending.Event.{Event}
 use Rattle.stomach.specs.declared.pending.Event.TheVariants.{Token as TokenEvent, SourceEnd, Empty}
 use Rattle.stomach.specs.declared.pending.Item.{Item}
 use Rattle.stomach.specs.declared.pending.Item.TheVariants.{Back, From}
 use Rattle.stomach.specs.declared.state.State.{State}
 use Rattle.stomach.specs.Did.{Did, ◌>>=◌}
-use Rattle.stomach.specs.Operand.{take, operand_token, operand_by, in_state, reading_of, with_reading, source_over}
-use Rattle.stomach.specs.Pending.{Reading, reading, event_of, next_event, by_token}
-use Rattle.stomach.specs.Take.{Looking, looking, paid, ended, as_token, by_seen, by_line, token_over, token_from}
+use Rattle.stomach.specs.Operand.{take, operand_token, operand_by, in_state}
+use Rattle.stomach.specs.Pending.{Reading, reading, event_of, by_token}
+use Rattle.stomach.specs.Take.{Looking, looking, paid, as_token, by_seen, by_line, token_over, token_from}
 use Rattle.stomach.specs.Work.{work}
 
 -- a token spends a step, and nothing gives one back

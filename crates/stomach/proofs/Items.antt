@@ -1,21 +1,20 @@
 -- A list that stands with its front at the end of a vector.
-use Rattle.std.proofs.Common.{◌≡◌, ℕ, ℤ, ◌+◌, ◌<◌, List, [], ◌∷◌, ◌++◌, Option, Some, None, Result, Ok, Err, ap, ◌∙◌, sym, refl, length, take, drop, get_or, set, arith, zero, suc, length-set, ◌-◌, ◌≤◌}
-use Rattle.std.specs.Prelude.{reverse, Bool}
+use Rattle.std.proofs.Common.{◌≡◌, ℕ, ℤ, ◌+◌, ◌<◌, List, [], ◌∷◌, ◌++◌, Some, None, Result, Ok, Err, ap, ◌∙◌, sym, refl, length, take, drop, get_or, set, arith, zero, suc, length-set, ◌-◌, ◌≤◌}
+use Rattle.std.specs.Prelude.{reverse}
 use Rattle.std.proofs.lemmas.List.{reverse-append, take_all}
 use Rattle.std.proofs.Math.Seq.{take-suc, take-suc-set}
 use Rattle.tokens.specs.Budget.{Allowance}
 use Rattle.tokens.specs.declared.stop.Stop.{Stop}
 use Rattle.tokens.specs.declared.token.Token.{Token}
 use Rattle.catcode_eye.specs.Outlook.{Outlook}
-use Rattle.stomach.specs.declared.pending.Event.{Event}
-use Rattle.stomach.specs.declared.pending.Event.TheVariants.{Token as TokenEvent, SourceEnd, Empty}
+use Rattle.stomach.specs.declared.pending.Event.TheVariants.{Token as TokenEvent, SourceEnd}
 use Rattle.stomach.specs.declared.pending.Item.{Item}
 use Rattle.stomach.specs.declared.pending.Item.TheVariants.{Back, From}
 use Rattle.stomach.specs.declared.source.Source.{Source}
 use Rattle.world.specs.Output.{Output}
 use Rattle.stomach.specs.Ending.{files_closed}
-use Rattle.stomach.specs.Did.{Did, Does, Ended, Ended-by}
-use Rattle.stomach.specs.Pending.{Reading, reading, event_of, next_event, by_token, begun_by, begun_behind_word, with_source}
+use Rattle.stomach.specs.Did.{Does, Ended, Ended-by}
+use Rattle.stomach.specs.Pending.{reading, event_of, next_event, by_token, begun_by, begun_behind_word, with_source}
 use Rattle.stomach.specs.Take.{looking, token_from, line_behind_word}
 
 -- what is put at the last place comes first where the list is reversed

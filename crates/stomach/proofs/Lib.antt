@@ -3,3 +3,5 @@ pub mod Items
 pub mod Falls
 pub mod NameFalls
 pub mod MessageFalls
+pub mod TurnFalls
+pub mod Hearing

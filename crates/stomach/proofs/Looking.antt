@@ -1,5 +1,5 @@
 -- How the tokens of a source follow from what the calls of its eye answer.
-use Rattle.std.proofs.Common.{◌≡◌, ℕ, ℤ, true, false, List, Option, Some, None, Result, Ok, Err, ap, ◌∙◌, sym, subst, refl}
+use Rattle.std.proofs.Common.{◌≡◌, ℕ, ℤ, true, false, List, Option, None, Result, Ok, Err, ap, ◌∙◌, sym, subst, refl}
 use Rattle.std.specs.Prelude.{Bool, not}
 use Rattle.catcode_eye.specs.declared.seen.Glance.{Glance}
 use Rattle.catcode_eye.specs.declared.seen.Glance.TheVariants as glances

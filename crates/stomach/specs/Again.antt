@@ -1,7 +1,7 @@
 -- Something that is done again and again until it says that it is enough. What is done has to make some
 -- number smaller each time that it asks for more, so that it comes to an end.
-use Rattle.std.specs.Prelude.{◌≡◌, ℕ, ◌+◌, ◌<◌, ◌≤◌, Bool, true, false, Result, Ok, Err, if◌then◌else◌, refl}
-use Rattle.std.proofs.Common.{zero, suc, sym, ◌∙◌, ap, arith, subst}
+use Rattle.std.specs.Prelude.{◌≡◌, ℕ, ◌<◌, ◌≤◌, Bool, true, false, Ok, Err, refl}
+use Rattle.std.proofs.Common.{zero, suc, ◌∙◌, ap, arith, subst}
 use Rattle.tokens.specs.declared.stop.Stop.{Stop}
 use Rattle.tokens.specs.declared.stop.Stop.TheVariants.{Spent}
 use Rattle.stomach.specs.Did.{Did, ◌>>=◌, Ended, Ended-by}
@@ -76,3 +76,39 @@ MoreFalls size s (Err e) = Unit {0}
 
 pub falls_from : {S : Type 0} (size : S → ℕ) (once : S → Did S Bool) → ((s : S) → MoreFalls size s (once s)) → Falls size once
 falls_from {S} size once h s t e = let P : Did S Bool → Type 0 = λ d. MoreFalls size s d in subst P e (h s)
+
+-- where no answer leaves more than was there, and each that asks for more leaves less
+abbrev pub Keeps : {S : Type 0} → (S → ℕ) → S → Did S Bool → Type 0
+Keeps size s (Ok (true, t)) = size t < size s
+Keeps size s (Ok (false, t)) = size t ≤ size s
+Keeps size s (Err e) = Unit {0}
+
+pub falls_from_keeps : {S : Type 0} (size : S → ℕ) (once : S → Did S Bool) → ((s : S) → Keeps size s (once s)) → Falls size once
+falls_from_keeps {S} size once h = falls_from size once (λ s. at s (once s) (h s))
+  where
+    at : (s : S) (d : Did S Bool) → Keeps size s d → MoreFalls size s d
+    at s (Ok (true, t)) k = k
+    at s (Ok (false, t)) k = tt
+    at s (Err e) k = tt
+
+-- so much is left at most
+abbrev pub Left : {S : Type 0} → (S → ℕ) → ℕ → Did S (Unit {0}) → Type 0
+Left size n (Ok (done, t)) = size t ≤ n
+Left size n (Err e) = Unit {0}
+
+at_most-left : {S : Type 0} (size : S → ℕ) (once : S → Did S Bool) → ((s : S) → Keeps size s (once s))
+    → (times : ℕ) (s : S) (n : ℕ) → size s ≤ n → Left size n (at_most once times s)
+unfolding at_most
+at_most-left size once keeps zero s n h = tt
+at_most-left {S} size once keeps (suc times) s n h =
+    at (λ t below. at_most-left size once keeps times t n below) (once s) (keeps s)
+  where
+    at : ((t : S) → size t ≤ n → Left size n (at_most once times t)) → (d : Did S Bool) → Keeps size s d → Left size n (d >>= go_on (at_most once times))
+    at further (Ok (true, t)) k = further t (omega (arith, k))
+    at further (Ok (false, t)) k = omega (arith, k)
+    at further (Err e) k = tt
+
+-- what is done again and again leaves no more than was there
+pub again-left : {S : Type 0} (size : S → ℕ) (once : S → Did S Bool) → ((s : S) → Keeps size s (once s)) → (s : S) → Left size (size s) (again size once s)
+unfolding again
+again-left size once keeps s = at_most-left size once keeps (suc (size s)) s (size s) (omega arith)

@@ -1,7 +1,7 @@
 -- How what a command does is said: as a function from the state before it to a value and the state after
 -- it, or to an end of the run and the state that is left then.
-use Rattle.std.specs.Prelude.{◌≡◌, Result, Ok, Err, refl}
-use Rattle.std.proofs.Common.{sym, ◌∙◌, ap}
+use Rattle.std.specs.Prelude.{◌≡◌, Result, Ok, Err}
+use Rattle.std.proofs.Common.{ap}
 use Rattle.tokens.specs.declared.stop.Stop.{Stop}
 use Rattle.tokens.specs.declared.stop.Stop.TheVariants.{Trouble, Capacity, Spent, ReadFault, WriteFault, OutOfMemory}
 

@@ -1,6 +1,5 @@
 -- Opening a file (The TeXbook, page 214; tex.web 537 and 538).
-use Rattle.std.specs.Prelude.{ℕ, ℤ, pos, Bool, true, false, ◌==◌, if◌then◌else◌, Option, None, Some, List, ◌∷◌, length, Result, Ok, Err}
-use Rattle.std.specs.FinMap as tree
+use Rattle.std.specs.Prelude.{ℕ, pos, true, false, ◌==◌, if◌then◌else◌, Option, None, Some, List, ◌∷◌, length, Ok, Err}
 use Rattle.tokens.specs.declared.kind.Kind.TheVariants.{FileNotFound}
 use Rattle.tokens.specs.declared.stop.Stop.TheVariants.{Trouble, ReadFault}
 use Rattle.catcode_eye.specs.Lines.{source_lines}
@@ -51,7 +50,7 @@ by_found file s (Some bytes) = found file bytes s
 -- the file is fetched
 abbrev pub fetched : Outside → List ℕ → State → Did State (Unit {0})
 fetched outside file s =
-    (if fails_at outside.failing s.fetches then Err (ReadFault, s) else by_found file s (tree.get outside.files file))
+    (if fails_at outside.failing s.fetches then Err (ReadFault, s) else by_found file s (outside.files file))
 
 -- one more file that is asked for outside
 abbrev pub with_fetch : State → State

@@ -15,3 +15,4 @@ pub mod Input
 pub mod Turn
 pub mod Ending
 pub mod Machine
+pub mod Example

@@ -1,6 +1,6 @@
 -- The whole run: its beginning, turn after turn, and its ending. It is a function of the files outside,
 -- of the fetch that fails, of the first line and of the number of steps that it may take.
-use Rattle.std.specs.Prelude.{ℕ, ℤ, pos, negsuc, Bool, true, false, not, ◌==◌, if◌then◌else◌, Option, None, List, [], ◌∷◌}
+use Rattle.std.specs.Prelude.{◌≡◌, refl, ℕ, negsuc, Bool, true, false, not, ◌==◌, List, [], ◌∷◌}
 use Rattle.tokens.specs.Budget.{unused}
 use Rattle.tokens.specs.Categories.{initial_categories}
 use Rattle.tokens.specs.Primitives.{primitive_names}
@@ -9,8 +9,8 @@ use Rattle.catcode_eye.specs.Outlook.{before_lines}
 use Rattle.world.specs.Output.{nothing_yet}
 use Rattle.stomach.specs.declared.pending.Item.TheVariants.{From}
 use Rattle.stomach.specs.declared.state.State.{State}
-use Rattle.stomach.specs.Again.{again}
-use Rattle.stomach.specs.Did.{Did}
+use Rattle.stomach.specs.Again.{again, go_on}
+use Rattle.stomach.specs.Did.{Did, ◌>>=◌}
 use Rattle.stomach.specs.Ending.{Outcome, outcome_of}
 use Rattle.stomach.specs.Outside.{Outside}
 use Rattle.stomach.specs.Turn.{turn}
@@ -42,3 +42,12 @@ turns outside s = again work (turn outside) s
 -- the run on a first line
 unfoldable pub run : Outside → List ℕ → ℕ → Outcome
 run outside line budget = outcome_of (turns outside (beginning line budget))
+
+-- the law of the turns: one turn, and then those of the state that it leaves, if the run goes on
+abbrev pub TurnsLaw : Type 0
+TurnsLaw = (outside : Outside) (s : State) → turns outside s ≡ (turn outside s >>= go_on (turns outside))
+
+-- what the turns are
+pub turns-is : (outside : Outside) → (s : State) → turns outside s ≡ again work (turn outside) s
+unfolding turns
+turns-is outside s = refl

@@ -1,5 +1,5 @@
 -- \message (The TeXbook, page 279; tex.web 1279 and 1280).
-use Rattle.std.specs.Prelude.{◌≡◌, refl, ℕ, ◌+◌, ◌-◌, Bool, true, false, ◌==◌, nat_lt, if◌then◌else◌, List, [], ◌∷◌, ◌++◌, length, Result, Ok, Err}
+use Rattle.std.specs.Prelude.{◌≡◌, refl, ℕ, ◌+◌, ◌-◌, Bool, true, false, ◌==◌, nat_lt, if◌then◌else◌, List, [], ◌∷◌, ◌++◌, length, Ok, Err}
 use Rattle.tokens.specs.declared.cap.Cap.TheVariants.{Items}
 use Rattle.tokens.specs.declared.stop.Stop.TheVariants.{Capacity}
 use Rattle.tokens.specs.declared.token.Token.{Token}

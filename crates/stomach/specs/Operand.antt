@@ -1,5 +1,5 @@
 -- The tokens of an operand, and tokens that are put back (tex.web 325 and 336).
-use Rattle.std.specs.Prelude.{ℕ, Bool, true, false, List, ◌∷◌, Result, Ok, Err, codes}
+use Rattle.std.specs.Prelude.{ℕ, Bool, true, false, List, ◌∷◌, Ok, Err, codes}
 use Rattle.tokens.specs.declared.kind.Kind.TheVariants.{NoEnd, LeftOut, UndefinedCs}
 use Rattle.tokens.specs.declared.stop.Stop.TheVariants.{Trouble}
 use Rattle.tokens.specs.declared.token.Token.{Token}

@@ -1,9 +1,14 @@
 -- What a run finds outside: the files, and which of its fetches fails.
-use Rattle.std.specs.Prelude.{ℕ, Bool, false, ◌==◌, Option, None, Some, List}
-use Rattle.world.specs.Told.{Files}
+use Rattle.std.specs.Prelude.{◌≡◌, ◌≢◌, ℕ, ◌<◌, ◌≤◌, Bool, false, ◌==◌, nat_lt, Option, None, Some, List, Result, Ok, Err}
+use Rattle.std.specs.FinMap as tree
+use Rattle.world.specs.Calls.{WhereTold}
+use Rattle.world.specs.Told.{Told, last_count}
+use Rattle.tokens.specs.declared.stop.Stop.{Stop}
+use Rattle.tokens.specs.declared.stop.Stop.TheVariants.{Trouble, Capacity, Spent, ReadFault, WriteFault, OutOfMemory}
 
 pub record Outside : Type 0 where
-  pub files : Files
+  -- what each name stands for, if it stands for anything
+  pub files : List ℕ → Option (List ℕ)
   -- the number of the one fetch that fails, counted from 1, if one does
   pub failing : Option ℕ
 
@@ -11,3 +16,32 @@ pub record Outside : Type 0 where
 abbrev pub fails_at : Option ℕ → ℕ → Bool
 fails_at None number = false
 fails_at (Some failing) number = failing == number
+
+-- what a world that tells is for a run, with the fetch that fails
+abbrev pub outside_of : Told → Option ℕ → Outside
+outside_of t failing = record { files = λ name. tree.get t.files name; failing = failing }
+
+-- what holds of a call that may have asked a world, whose count of failed reads was `before` and is `after`: it
+-- is what the definition says of the world's files, where a fetch that was made failed just where that
+-- count rose. Fetches are counted from `asked` to `now`, below the last number that is counted
+abbrev pub Heard : Option Told → ℕ → ℕ → ℕ → ℕ → (Outside → Type 0) → Type 0
+Heard told before after asked now P =
+    (t : Told) → told ≡ Some t → asked < last_count → (failing : Option ℕ)
+    → (now ≢ asked → fails_at failing now ≡ nat_lt before after) → P (outside_of t failing)
+
+-- no file changed, and the terminal shows what it showed
+abbrev pub SameOutside : Told → Told → Type 0
+SameOutside t u = (u.files ≡ t.files) × (u.terminal ≡ t.terminal)
+
+abbrev pub IsQuiet : Option Told → Option Told → Type 0
+IsQuiet old new = WhereTold SameOutside old new
+
+-- a read fails only where the run ends for it, and the count of failed reads doesn't fall
+abbrev pub FaultsOnly : {A : Type 0} → Result A Stop → ℕ → ℕ → Type 0
+FaultsOnly (Ok value) before after = after ≡ before
+FaultsOnly (Err (Trouble kind)) before after = after ≡ before
+FaultsOnly (Err (Capacity cap)) before after = after ≡ before
+FaultsOnly (Err Spent) before after = after ≡ before
+FaultsOnly (Err ReadFault) before after = before ≤ after
+FaultsOnly (Err WriteFault) before after = after ≡ before
+FaultsOnly (Err OutOfMemory) before after = after ≡ before

@@ -1,6 +1,6 @@
 -- All that is still to be read, as one list, and what comes next of it (The TeXbook, chapter 20; tex.web,
 -- part 22). There is no stack of lists: what is put in front stands in front.
-use Rattle.std.specs.Prelude.{ℕ, ℤ, Bool, List, [], ◌∷◌, Option, Some, None, Result, Ok, Err}
+use Rattle.std.specs.Prelude.{ℕ, ℤ, Bool, List, [], ◌∷◌, Option, Some, None, Ok, Err}
 use Rattle.tokens.specs.Budget.{Allowance}
 use Rattle.tokens.specs.declared.token.Token.{Token}
 use Rattle.stomach.specs.declared.pending.Event.{Event}

@@ -1,6 +1,6 @@
 -- What is printed of a run besides its messages: files that are opened and closed, and its ending
 -- (tex.web 537, 1280, 1333 to 1335).
-use Rattle.std.specs.Prelude.{ℕ, ℤ, pos, ◌+◌, ◌<◌, Bool, true, false, ◌||◌, not, ◌==◌, nat_lt, if◌then◌else◌, List, [], ◌∷◌, ◌++◌, length, codes}
+use Rattle.std.specs.Prelude.{ℕ, ◌+◌, ◌||◌, not, ◌==◌, nat_lt, if◌then◌else◌, List, [], ◌∷◌, length, codes}
 use Rattle.world.specs.declared.target.Target.TheVariants.{Both}
 use Rattle.world.specs.Output.{Output, after_print, after_end_line, after_fresh_line}
 use Rattle.stomach.specs.declared.start_values.TheConstants.{NEW_LINE_CHARACTER}

@@ -16,7 +16,7 @@ use Rattle.catcode_eye.specs.declared.seen.Seen.TheVariants.{Char as SeenChar, A
 use Rattle.catcode_eye.specs.Outlook.{Outlook, next_seen, next_line, with_line, with_sight, behind_word}
 use Rattle.catcode_eye.specs.Seen.{Sight, sight}
 use Rattle.catcode_eye.specs.declared.seen.State.{State}
-use Rattle.stomach.specs.Did.{Did, ◌>>=◌}
+use Rattle.stomach.specs.Did.{Did}
 
 -- what reading from one source looks at and changes
 pub record Looking : Type 0 where

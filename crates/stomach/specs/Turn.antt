@@ -1,6 +1,6 @@
 -- One turn of a run: the next token is taken, and what it does is done (The TeXbook, chapter 24;
 -- tex.web 1030 and 1045). A turn tells whether the run goes on.
-use Rattle.std.specs.Prelude.{ℕ, Bool, true, false, if◌then◌else◌, Result, Ok, Err, codes}
+use Rattle.std.specs.Prelude.{Bool, true, false, if◌then◌else◌, Ok, codes}
 use Rattle.tokens.specs.declared.token.Token.{Token}
 use Rattle.stomach.specs.declared.command.Command.{Command}
 use Rattle.stomach.specs.declared.command.Command.TheVariants.{Space, Relax, Par, End, Catcode, Message, Undefined, Character}

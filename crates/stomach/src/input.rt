@@ -1,7 +1,19 @@
 //! Opening a file (The TeXbook, page 214; `tex.web` 537 and 538).
-ghost use Rattle.std.specs.Prelude.{◌≡◌, OnOk};
+ghost use Rattle.std.specs.Prelude.{◌≡◌, ◌<◌, ◌≤◌, ◌+◌, true, OnOk};
 ghost use Rattle.stomach.specs.Did.{Does, DoesBy, Ended};
-ghost use Rattle.stomach.specs.Input.{naming_line, named_file, asking, not_found, found, opened, with_fetch};
+ghost use Rattle.stomach.specs.Input.{
+  naming_line,
+  named_file,
+  asking,
+  not_found,
+  found,
+  opened,
+  open_file,
+  input,
+  with_fetch,
+};
+ghost use Rattle.stomach.specs.Outside.{Heard, IsQuiet, FaultsOnly};
+ghost use Rattle.stomach.specs.Work.{work};
 
 use crate::file_name::{file_of, job_of};
 use crate::report;
@@ -19,16 +31,26 @@ const LINE_FEED: i32 = 10;
 impl State {
     /// Reads the name of a file in the first line, as if `\input` stood in front of it, and opens the file.
     pub fn input<W: World>(&mut self, alloc: Global, world: &mut W) -> Result<(), Stop>
+        requires named { self.old.names_file ≡ true }
+        ensures heard { Heard (W.told world.old) (W.read_faults world.old) (W.read_faults world.new) self.old.fetches self.new.fetches
+            (λ outside. Does result self.new (input outside self.old)) }
+        ensures less { OnOk result (work self.new < work self.old) }
+        ensures quiet { IsQuiet (W.told world.old) (W.told world.new) }
+        ensures faults { FaultsOnly result (W.read_faults world.old) (W.read_faults world.new) }
         ensures silent { W.write_faults world.new ≡ W.write_faults world.old }
+        ensures counts { self.old.fetches ≤ self.new.fetches }
     {
-        let file = self.named_file(alloc)?;
-        self.open_file(alloc, world, file.bytes())
+        match self.named_file(alloc) {
+            Ok(file) => self.open_file(alloc, world, file.bytes()),
+            Err(stop) => Err(stop),
+        }
     }
 
     /// Reads the name of a file in the first line.
     #[tactic(auto, unfolding(crate::specs::Input::named_file))]
     fn named_file(&mut self, alloc: Global) -> Result<Text, Stop>
         ensures does { Does result self.new (named_file self.old) }
+        ensures asks_nothing { self.new.fetches ≡ self.old.fetches }
     {
         self.names_file = false;
         self.naming_line()?;
@@ -46,6 +68,7 @@ impl State {
     #[tactic(auto, unfolding(crate::specs::Input::naming_line))]
     fn naming_line(&mut self) -> Result<(), Stop>
         ensures does { Does result self.new (naming_line self.old) }
+        ensures asks_nothing { self.new.fetches ≡ self.old.fetches }
     {
         self.pending
             .begin_behind_word(END_LINE_CHARACTER, &mut self.names, &mut self.budget)
@@ -54,6 +77,7 @@ impl State {
     /// Notes that a file is asked for; the first one names the job.
     fn ask_for(&mut self, alloc: Global, file: &[u8]) -> Result<(), AllocError>
         ensures ok { OnOk result (self.new ≡ asking file.now self.old) }
+        ensures asks_nothing { self.new.fetches ≡ self.old.fetches }
     {
         if self.job.bytes().is_empty() {
             self.job = Text::new(job_of(alloc, file)?);
@@ -64,7 +88,13 @@ impl State {
 
     /// Opens a file. A name that isn't good stands for no file, and isn't asked for outside.
     fn open_file<W: World>(&mut self, alloc: Global, world: &mut W, file: &[u8]) -> Result<(), Stop>
+        ensures heard { Heard (W.told world.old) (W.read_faults world.old) (W.read_faults world.new) self.old.fetches self.new.fetches
+            (λ outside. Does result self.new (open_file outside file.now self.old)) }
+        ensures less { OnOk result (work self.new ≤ work self.old + 1) }
+        ensures quiet { IsQuiet (W.told world.old) (W.told world.new) }
+        ensures faults { FaultsOnly result (W.read_faults world.old) (W.read_faults world.new) }
         ensures silent { W.write_faults world.new ≡ W.write_faults world.old }
+        ensures counts { self.old.fetches ≤ self.new.fetches }
     {
         if !is_good_name(file) {
             return self.not_found(alloc, file);
@@ -88,6 +118,8 @@ impl State {
     /// Opens a file with these bytes.
     fn found(&mut self, alloc: Global, file: &[u8], bytes: Vec<u8>) -> Result<(), Stop>
         ensures does { Does result self.new (found file.now bytes.items self.old) }
+        ensures less { OnOk result (work self.new ≤ work self.old + 1) }
+        ensures asks_nothing { self.new.fetches ≡ self.old.fetches }
     {
         match report::show_begun(&mut self.printer, file) {
             Ok(()) => self.opened(alloc, bytes),
@@ -99,6 +131,7 @@ impl State {
     #[tactic(auto, unfolding(crate::specs::Input::opened))]
     fn opened(&mut self, alloc: Global, bytes: Vec<u8>) -> Result<(), Stop>
         ensures does { Does result self.new (opened bytes.items self.old) }
+        ensures asks_nothing { self.new.fetches ≡ self.old.fetches }
     {
         let mut eye = Eye::new(alloc, bytes, LINE_FEED, true);
         first_line(&mut eye, END_LINE_CHARACTER, &self.names, &mut self.budget)?;
@@ -111,6 +144,7 @@ impl State {
     /// The end of a run at a file that isn't there.
     fn not_found(&mut self, alloc: Global, file: &[u8]) -> Result<(), Stop>
         ensures does { Does result self.new (not_found file.now self.old) }
+        ensures asks_nothing { self.new.fetches ≡ self.old.fetches }
     {
         match file.to_vec(alloc) {
             Ok(file) => Err(Stop::Trouble(Kind::FileNotFound(Text::new(file)))),

@@ -3,7 +3,8 @@
 #![tactic(auto)]
 
 pub use ending::Exit;
-pub use machine::{Ended, Machine, Start};
+pub use example::worked_run;
+pub use machine::{Ended, Machine, Start, turns_law};
 pub use pending::{Item, Pending};
 pub use source::Source;
 pub use state::State;
@@ -11,6 +12,7 @@ pub use state::State;
 mod catcode;
 mod command;
 mod ending;
+mod example;
 mod file_name;
 mod input;
 mod machine;

@@ -1,6 +1,10 @@
 //! The machine: a whole run, from its first line to its last (`tex.web` 1332).
-ghost use Rattle.std.specs.Prelude.{◌≡◌, IfOk};
-ghost use Rattle.stomach.specs.Machine.{begins_with_name, beginning};
+ghost use Rattle.std.specs.Prelude.{◌≡◌, ◌<◌, ◌≤◌, true, IfOk};
+ghost use Rattle.stomach.specs.Did.{Does, DoesBy, Ended};
+ghost use Rattle.stomach.specs.Outside.{Heard, IsQuiet, FaultsOnly};
+ghost use Rattle.stomach.specs.Turn.{turn};
+ghost use Rattle.stomach.specs.Work.{work};
+ghost use Rattle.stomach.specs.Machine.{begins_with_name, beginning, TurnsLaw};
 
 use crate::ending::{Exit, exit_of};
 use crate::pending::Pending;
@@ -55,7 +59,13 @@ impl Machine {
 
     /// One turn. The answer is false exactly at the end of the run.
     pub fn step<W: World>(&mut self, world: &mut W) -> Result<bool, Stop>
+        ensures heard { Heard (W.told world.old) (W.read_faults world.old) (W.read_faults world.new) self.old.fetches self.new.fetches
+            (λ outside. Does result self.new (turn outside self.old)) }
+        ensures less { IfOk result (λ more. more ≡ true → work self.new < work self.old) }
+        ensures quiet { IsQuiet (W.told world.old) (W.told world.new) }
+        ensures faults { FaultsOnly result (W.read_faults world.old) (W.read_faults world.new) }
         ensures silent { W.write_faults world.new ≡ W.write_faults world.old }
+        ensures counts { self.old.fetches ≤ self.new.fetches }
     {
         self.state.turn(self.alloc, world)
     }
@@ -73,16 +83,15 @@ impl Machine {
         Ended { exit, steps }
     }
 
-    /// All turns. Each takes a step, or makes the list shorter of what is still to be read.
+    /// All turns. Each leaves less work to be done.
     fn turns<W: World>(&mut self, world: &mut W) -> Result<(), Stop> {
-        for _ in 0..u64::MAX {
+        'turns: loop {
             match self.step(world) {
                 Ok(true) => {}
                 Ok(false) => return Ok(()),
                 Err(stop) => return Err(stop),
             }
         }
-        Err(Stop::Spent)
     }
 
     /// Shows the ending, and tells the exit.
@@ -135,3 +144,8 @@ fn begins_with_name(line: &[u8]) -> bool
         [first, ..] => *first != b'\\',
     }
 }
+
+/// The law of a run: its turns are one turn, and the turns of what that leaves.
+pub fn turns_law()
+    ensures law { TurnsLaw }
+{}

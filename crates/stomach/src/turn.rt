@@ -1,9 +1,11 @@
 //! One turn of a run: the next token is taken, and what it does is done (The TeXbook, chapter 24;
 //! `tex.web` 1030 and 1045).
-ghost use Rattle.std.specs.Prelude.{◌≡◌};
+ghost use Rattle.std.specs.Prelude.{◌≡◌, ◌<◌, ◌≤◌, true, IfOk};
 ghost use Rattle.stomach.specs.Command.{command_of};
 ghost use Rattle.stomach.specs.Did.{Does, DoesBy, Ended};
-ghost use Rattle.stomach.specs.Turn.{plain_turn, by_event, executed};
+ghost use Rattle.stomach.specs.Turn.{turn, plain_turn, by_event, executed};
+ghost use Rattle.stomach.specs.Outside.{Heard, IsQuiet, FaultsOnly};
+ghost use Rattle.stomach.specs.Work.{work};
 
 use crate::command::{Command, command_of};
 use crate::pending::Event;
@@ -15,19 +17,29 @@ use world::World;
 impl State {
     /// One turn. The answer is whether the run goes on.
     pub fn turn<W: World>(&mut self, alloc: Global, world: &mut W) -> Result<bool, Stop>
+        ensures heard { Heard (W.told world.old) (W.read_faults world.old) (W.read_faults world.new) self.old.fetches self.new.fetches
+            (λ outside. Does result self.new (turn outside self.old)) }
+        ensures less { IfOk result (λ more. more ≡ true → work self.new < work self.old) }
+        ensures quiet { IsQuiet (W.told world.old) (W.told world.new) }
+        ensures faults { FaultsOnly result (W.read_faults world.old) (W.read_faults world.new) }
         ensures silent { W.write_faults world.new ≡ W.write_faults world.old }
+        ensures counts { self.old.fetches ≤ self.new.fetches }
     {
         if self.names_file {
-            self.input(alloc, world)?;
-            return Ok(true);
+            match self.input(alloc, world) {
+                Ok(()) => Ok(true),
+                Err(stop) => Err(stop),
+            }
+        } else {
+            self.plain_turn(alloc)
         }
-        self.plain_turn(alloc)
     }
 
     /// A turn that takes what comes next.
     #[tactic(auto, unfolding(crate::specs::Turn::plain_turn))]
     fn plain_turn(&mut self, alloc: Global) -> Result<bool, Stop>
         ensures does { Does result self.new (plain_turn self.old) }
+        ensures asks_nothing { self.new.fetches ≡ self.old.fetches }
     {
         match self.take() {
             Ok(event) => self.by_event(alloc, event),
@@ -37,6 +49,7 @@ impl State {
 
     fn by_event(&mut self, alloc: Global, event: Event) -> Result<bool, Stop>
         ensures does { Does result self.new (by_event (event, self.old)) }
+        ensures asks_nothing { self.new.fetches ≡ self.old.fetches }
     {
         match event {
             Event::Token(token) => self.execute(alloc, token, command_of(token)),
@@ -51,6 +64,7 @@ impl State {
     /// Carries out a command. The answer is whether the run goes on.
     fn execute(&mut self, alloc: Global, token: Token, command: Command) -> Result<bool, Stop>
         ensures does { Does result self.new (executed token self.old command) }
+        ensures asks_nothing { self.new.fetches ≡ self.old.fetches }
     {
         match command {
             Command::Space | Command::Relax | Command::Par => Ok(true),

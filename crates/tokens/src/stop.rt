@@ -1,5 +1,5 @@
 //! The ways in which a command can end the run (`tex.web`, part 6, on error handling).
-ghost use Rattle.std.specs.Prelude.{◌≡◌};
+ghost use Rattle.std.specs.Prelude.{◌≡◌, ◌++◌, Some, codes, decimal};
 ghost use Rattle.tokens.specs.Stop.{stop_number};
 ghost use Rattle.tokens.specs.declared.stop.Stop.TheVariants.{OutOfMemory};
 
@@ -43,6 +43,8 @@ impl Stop {
 }
 
 impl fmt::Display for Stop {
+    ghost output = { λ stop. Some (codes "stop " ++ decimal (stop_number stop)) };
+
     fn fmt<W: fmt::Write>(&self, f: &mut fmt::Formatter<W>) -> fmt::Result {
         write!(f, "stop {}", self.number())
     }

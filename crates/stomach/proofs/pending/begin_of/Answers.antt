@@ -1,4 +1,4 @@
-use Rattle.std.proofs.Common.{◌≡◌, ◌∙◌, sym, ap, arith, [], ℤ, subst}
+use Rattle.std.proofs.Common.{arith, [], ℤ, subst}
 use Rattle.std.specs.Int.{w32}
 use Rattle.std.proofs.lemmas.Int.{to_z-of_z}
 use Rattle.stomach.specs.Did.{Does}

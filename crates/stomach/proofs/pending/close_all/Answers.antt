@@ -1,8 +1,4 @@
-use Rattle.std.proofs.Common.{◌≡◌, ◌∙◌, ap, List, arith, length}
-use Rattle.std.specs.Prelude.{reverse}
-use Rattle.std.proofs.lemmas.List.{take_all}
-use Rattle.stomach.specs.declared.pending.Item.{Item}
-use Rattle.stomach.specs.Ending.{files_closed}
+use Rattle.std.proofs.Common.{◌∙◌, arith}
 use Rattle.stomach.proofs.Items.{files_closed-step}
 use Rattle.stomach.proofs.pending.close_all.Goals as goal
 

@@ -1,8 +1,8 @@
-use Rattle.std.proofs.Common.{◌≡◌, ◌∙◌, sym, ap, arith, [], List}
+use Rattle.std.proofs.Common.{◌≡◌, ◌∙◌, sym, ap, [], List}
 use Rattle.tokens.specs.declared.token.Token.{Token}
 use Rattle.stomach.specs.Again.{again, again-more, again-enough, again-ended}
 use Rattle.stomach.specs.Did.{Ended-by, lowered}
-use Rattle.stomach.specs.Message.{Gathering, gathering, gathering_work, text_turn, balanced_text, balanced_text-is}
+use Rattle.stomach.specs.Message.{gathering, gathering_work, text_turn, balanced_text, balanced_text-is}
 use Rattle.stomach.proofs.MessageFalls.{text_turn-falls}
 use Rattle.stomach.proofs.state.State.balanced_text.Goals as goal
 
@@ -17,6 +17,7 @@ text-preserved c = record {
       (gathering c.text_turn.new.text.items c.text_turn.new.braces c.text_turn.new.self)
       (rw c.in-Ok-true.field-0-test at c.in-Ok-true.ensures.does)) ∙ c.text.invariant.same;
   few = c.in-Ok-true.ensures.few;
+  asks_nothing = c.in-Ok-true.ensures.asks_nothing ∙ c.text.invariant.asks_nothing;
 }
 
 pub returns-in-Ok-false : goal.returns-in-Ok-false
@@ -29,6 +30,7 @@ returns-in-Ok-false c = record {
       (sym begun ∙ again-enough gathering_work text_turn text_turn-falls (gathering c.text.text.items c.text.braces c.text.self)
       (gathering c.text_turn.new.text.items c.text_turn.new.braces c.text_turn.new.self)
       (rw c.in-Ok-false.field-0-test at c.in-Ok-false.ensures.does));
+  asks_nothing = c.in-Ok-false.ensures.asks_nothing ∙ c.text.invariant.asks_nothing;
 }
 
 pub returns-in-Err : goal.returns-in-Err
@@ -41,4 +43,5 @@ returns-in-Err c = record {
       (λ e. balanced_text-is c.args.self.now ∙ ap (lowered (λ g. g.text) (λ g. g.state)) (sym begun ∙ e))
       (again-ended gathering_work text_turn text_turn-falls c.in-Err.stop (gathering c.text.text.items c.text.braces c.text.self)
       (gathering c.text_turn.new.text.items c.text_turn.new.braces c.text_turn.new.self) c.in-Err.ensures.does);
+  asks_nothing = c.in-Err.ensures.asks_nothing ∙ c.text.invariant.asks_nothing;
 }

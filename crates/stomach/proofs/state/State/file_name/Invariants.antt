@@ -5,9 +5,11 @@ use Rattle.stomach.specs.Work.{work}
 use Rattle.stomach.proofs.state.State.file_name.Given as goal
 
 abbrev pub invariant-name : goal.invariant-name
-invariant-name l =
-    again naming_work name_turn (naming l.name.items l.self)
-    ≡ again naming_work name_turn (naming l.initial.name.items l.initial.self)
+invariant-name l = record {
+  same : again naming_work name_turn (naming l.name.items l.self)
+      ≡ again naming_work name_turn (naming l.initial.name.items l.initial.self);
+  asks_nothing : l.self.fetches ≡ l.initial.self.fetches;
+}
 
 abbrev pub decreases-name : goal.decreases-name
 decreases-name l = work l.self

@@ -5,7 +5,10 @@ use Rattle.stomach.specs.Work.{work}
 use Rattle.stomach.proofs.state.State.left_brace.Given as goal
 
 abbrev pub invariant-brace : goal.invariant-brace
-invariant-brace l = again work brace_turn l.self ≡ again work brace_turn l.initial.self
+invariant-brace l = record {
+  same : again work brace_turn l.self ≡ again work brace_turn l.initial.self;
+  asks_nothing : l.self.fetches ≡ l.initial.self.fetches;
+}
 
 abbrev pub decreases-brace : goal.decreases-brace
 decreases-brace l = work l.self
