@@ -1,6 +1,8 @@
 //! A run of TeX on the words of a command line.
-ghost use Rattle.std.specs.Prelude.{◌≡◌};
-ghost use Rattle.etex_cli.specs.Words.{line_of};
+ghost use Rattle.std.specs.Prelude.{◌≡◌, ◌≢◌, [], ◌∷◌, length, String};
+ghost use Rattle.std.specs.String.{string_bytes};
+ghost use Rattle.stomach.specs.Outside.{SameFiles};
+ghost use Rattle.etex_cli.specs.Words.{line_of, RunsLine, ShowsUsage};
 
 use std::alloc::{AllocError, Global};
 use stomach::{Exit, Machine, Start};
@@ -10,7 +12,13 @@ use world::{Printer, Target, World, WorldError};
 const STEPS: u64 = 1_000_000_000;
 
 /// Runs TeX on the words behind the program's name. There is one word, the first line.
-pub fn etex_main<W: World>(alloc: Global, words: &[String], world: &mut W) -> Exit {
+pub fn etex_main<W: World>(alloc: Global, words: &[String], world: &mut W) -> Exit
+    ensures machine { (w : String Global) → words.now ≡ w ∷ [] →
+        RunsLine (line_of (string_bytes w)) STEPS result (W.told world.old) (W.told world.new)
+        (W.read_faults world.old) (W.read_faults world.new) }
+    ensures usage { length words.now ≢ 1 → ShowsUsage USAGE.now result (W.told world.old) (W.told world.new) }
+    ensures files { SameFiles (W.told world.old) (W.told world.new) }
+{
     match words {
         [word] => run(alloc, word.as_str().as_bytes(), world),
         _ => usage(alloc, world),
@@ -18,8 +26,12 @@ pub fn etex_main<W: World>(alloc: Global, words: &[String], world: &mut W) -> Ex
 }
 
 /// Runs TeX on a first line, which may have an asterisk in front.
-fn run<W: World>(alloc: Global, word: &[u8], world: &mut W) -> Exit {
-    let Ok(line) = line_of(word).to_vec(alloc) else {
+fn run<W: World>(alloc: Global, word: &[u8], world: &mut W) -> Exit
+    ensures machine { RunsLine (line_of word.now) STEPS result (W.told world.old) (W.told world.new)
+        (W.read_faults world.old) (W.read_faults world.new) }
+    ensures files { SameFiles (W.told world.old) (W.told world.new) }
+{
+    let Ok(line) = Vec::from_slice(alloc, line_of(word)) else {
         return Exit::OutOfMemory;
     };
     let start = Start {
@@ -43,7 +55,10 @@ fn line_of(word: &[u8]) -> &[u8]
 }
 
 /// Shows how the program is called.
-fn usage<W: World>(alloc: Global, world: &mut W) -> Exit {
+fn usage<W: World>(alloc: Global, world: &mut W) -> Exit
+    ensures usage { ShowsUsage USAGE.now result (W.told world.old) (W.told world.new) }
+    ensures files { SameFiles (W.told world.old) (W.told world.new) }
+{
     match world.show(USAGE) {
         Ok(()) => Exit::Usage,
         Err(WorldError::Failed) => Exit::WriteFault,

@@ -57,7 +57,7 @@ counted-more n h = at (n == last_count) refl
     at true e = absurd (omega (arith, h, eqb-true n last_count e))
     at false e = refl
 
-same_not_less : (a b : ℕ) → b ≡ a → nat_lt a b ≡ false
+pub same_not_less : (a b : ℕ) → b ≡ a → nat_lt a b ≡ false
 same_not_less a b e = at (nat_lt a b) refl
   where
     at : (c : Bool) → nat_lt a b ≡ c → c ≡ false

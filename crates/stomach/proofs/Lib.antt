@@ -5,3 +5,4 @@ pub mod NameFalls
 pub mod MessageFalls
 pub mod TurnFalls
 pub mod Hearing
+pub mod Turns

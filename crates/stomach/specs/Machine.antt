@@ -1,6 +1,7 @@
 -- The whole run: its beginning, turn after turn, and its ending. It is a function of the files outside,
 -- of the fetch that fails, of the first line and of the number of steps that it may take.
-use Rattle.std.specs.Prelude.{◌≡◌, refl, ℕ, negsuc, Bool, true, false, not, ◌==◌, List, [], ◌∷◌}
+use Rattle.std.specs.Prelude.{◌≡◌, refl, ℕ, negsuc, Bool, true, false, not, ◌==◌, List, [], ◌∷◌, ◌≤◌, ◌+◌, if◌then◌else◌}
+use Rattle.std.proofs.Common.{arith}
 use Rattle.tokens.specs.Budget.{unused}
 use Rattle.tokens.specs.Categories.{initial_categories}
 use Rattle.tokens.specs.Primitives.{primitive_names}
@@ -14,7 +15,7 @@ use Rattle.stomach.specs.Did.{Did, ◌>>=◌}
 use Rattle.stomach.specs.Ending.{Outcome, outcome_of}
 use Rattle.stomach.specs.Outside.{Outside}
 use Rattle.stomach.specs.Turn.{turn}
-use Rattle.stomach.specs.Work.{work}
+use Rattle.stomach.specs.Work.{work, asks}
 
 -- whether the first line names a file: it isn't empty, and doesn't begin with an escape character
 abbrev pub begins_with_name : List ℕ → Bool
@@ -51,3 +52,22 @@ TurnsLaw = (outside : Outside) (s : State) → turns outside s ≡ (turn outside
 pub turns-is : (outside : Outside) → (s : State) → turns outside s ≡ again work (turn outside) s
 unfolding turns
 turns-is outside s = refl
+
+-- what a run is
+pub run-is : (outside : Outside) (line : List ℕ) (budget : ℕ) → run outside line budget ≡ outcome_of (turns outside (beginning line budget))
+unfolding run
+run-is outside line budget = refl
+
+-- at the beginning nothing was asked for
+pub beginning-fetches : (line : List ℕ) (budget : ℕ) → (beginning line budget).fetches ≡ 0
+unfolding beginning
+beginning-fetches line budget = refl
+
+-- a run asks for one file at most
+pub beginning-asks : (line : List ℕ) (budget : ℕ) → asks (beginning line budget) ≤ 1
+unfolding beginning
+beginning-asks line budget = at (begins_with_name line)
+  where
+    at : (b : Bool) → 0 + (if b then 1 else 0) ≤ 1
+    at true = omega arith
+    at false = omega arith

@@ -36,6 +36,10 @@ SameOutside t u = (u.files ≡ t.files) × (u.terminal ≡ t.terminal)
 abbrev pub IsQuiet : Option Told → Option Told → Type 0
 IsQuiet old new = WhereTold SameOutside old new
 
+-- no file changed
+abbrev pub SameFiles : Option Told → Option Told → Type 0
+SameFiles old new = WhereTold (λ t u. u.files ≡ t.files) old new
+
 -- a read fails only where the run ends for it, and the count of failed reads doesn't fall
 abbrev pub FaultsOnly : {A : Type 0} → Result A Stop → ℕ → ℕ → Type 0
 FaultsOnly (Ok value) before after = after ≡ before
@@ -45,3 +49,16 @@ FaultsOnly (Err Spent) before after = after ≡ before
 FaultsOnly (Err ReadFault) before after = before ≤ after
 FaultsOnly (Err WriteFault) before after = after ≡ before
 FaultsOnly (Err OutOfMemory) before after = after ≡ before
+
+-- what holds of a call that may have asked a world several times, of which the last alone may have failed: it
+-- is what the definition says of the world's files, where no fetch but the last that was made failed, and that
+-- one just where the count of failed reads rose
+abbrev pub HeardAll : Option Told → ℕ → ℕ → ℕ → ℕ → (Told → Outside → Type 0) → Type 0
+HeardAll told before after asked now P =
+    (t : Told) → told ≡ Some t → now < last_count → (failing : Option ℕ)
+    → ((k : ℕ) → asked < k → k < now → fails_at failing k ≡ false)
+    → (asked < now → fails_at failing now ≡ nat_lt before after) → P t (outside_of t failing)
+
+-- where nothing was asked for, no read failed
+abbrev pub IsUnasked : ℕ → ℕ → ℕ → ℕ → Type 0
+IsUnasked asked now before after = now ≡ asked → asked < last_count → after ≡ before

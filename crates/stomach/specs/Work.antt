@@ -5,3 +5,7 @@ use Rattle.stomach.specs.declared.state.State.{State}
 
 abbrev pub work : State → ℕ
 work s = 2 * s.budget.left + length s.pending + (if s.names_file then 3 else 0)
+
+-- how many files were asked for, the one that is still to be named included
+abbrev pub asks : State → ℕ
+asks s = s.fetches + (if s.names_file then 1 else 0)

@@ -35,7 +35,7 @@ impl State {
     #[tactic(auto, unfolding(crate::specs::Catcode::catcode))]
     pub fn catcode(&mut self, alloc: Global) -> Result<(), Stop>
         ensures does { Does result self.new (catcode self.old) }
-        ensures asks_nothing { self.new.fetches ≡ self.old.fetches }
+        ensures asks_nothing { (self.new.fetches ≡ self.old.fetches) × (self.new.names_file ≡ self.old.names_file) }
     {
         self.exactly(alloc, b'`')?;
         let byte = self.named_character(alloc)?;
@@ -49,7 +49,7 @@ impl State {
     #[tactic(auto, unfolding(crate::specs::Catcode::exactly))]
     fn exactly(&mut self, alloc: Global, byte: u8) -> Result<(), Stop>
         ensures does { Does result self.new (exactly byte self.old) }
-        ensures asks_nothing { self.new.fetches ≡ self.old.fetches }
+        ensures asks_nothing { (self.new.fetches ≡ self.old.fetches) × (self.new.names_file ≡ self.old.names_file) }
     {
         let token = self.operand_token(alloc)?;
         if is_other(byte, token) {
@@ -63,7 +63,7 @@ impl State {
     #[tactic(auto, unfolding(crate::specs::Catcode::named_character))]
     fn named_character(&mut self, alloc: Global) -> Result<u8, Stop>
         ensures does { Does result self.new (named_character self.old) }
-        ensures asks_nothing { self.new.fetches ≡ self.old.fetches }
+        ensures asks_nothing { (self.new.fetches ≡ self.old.fetches) × (self.new.names_file ≡ self.old.names_file) }
     {
         let token = self.operand_token(alloc)?;
         match named_byte(&self.names, token) {
@@ -77,7 +77,7 @@ impl State {
     fn digit(&mut self, alloc: Global) -> Result<u8, Stop>
         ensures does { Does result self.new (digit self.old) }
         ensures bound { IfOk result (λ value. value < 10) }
-        ensures asks_nothing { self.new.fetches ≡ self.old.fetches }
+        ensures asks_nothing { (self.new.fetches ≡ self.old.fetches) × (self.new.names_file ≡ self.old.names_file) }
     {
         let token = self.operand_token(alloc)?;
         match digit_value(token) {
@@ -91,7 +91,7 @@ impl State {
     fn category_number(&mut self, alloc: Global) -> Result<u8, Stop>
         ensures does { Does result self.new (category_number self.old) }
         ensures bound { IfOk result (λ value. value < 16) }
-        ensures asks_nothing { self.new.fetches ≡ self.old.fetches }
+        ensures asks_nothing { (self.new.fetches ≡ self.old.fetches) × (self.new.names_file ≡ self.old.names_file) }
     {
         let first = self.digit(alloc)?;
         let token = self.operand_token(alloc)?;
@@ -103,7 +103,7 @@ impl State {
         requires { first < 10 }
         ensures does { Does result self.new (more_digits first (token, self.old)) }
         ensures bound { IfOk result (λ value. value < 16) }
-        ensures asks_nothing { self.new.fetches ≡ self.old.fetches }
+        ensures asks_nothing { (self.new.fetches ≡ self.old.fetches) × (self.new.names_file ≡ self.old.names_file) }
     {
         match digit_value(token) {
             Some(second) => {
@@ -122,7 +122,7 @@ impl State {
     fn after_number(&mut self, alloc: Global, value: u8) -> Result<u8, Stop>
         ensures does { Does result self.new (after_number value self.old) }
         ensures same { IfOk result (λ number. number ≡ value) }
-        ensures asks_nothing { self.new.fetches ≡ self.old.fetches }
+        ensures asks_nothing { (self.new.fetches ≡ self.old.fetches) × (self.new.names_file ≡ self.old.names_file) }
     {
         let token = self.operand_token(alloc)?;
         self.number_over(value, token)
@@ -132,7 +132,7 @@ impl State {
     fn number_over(&mut self, value: u8, token: Token) -> Result<u8, Stop>
         ensures does { Does result self.new (number_over value (token, self.old)) }
         ensures same { IfOk result (λ number. number ≡ value) }
-        ensures asks_nothing { self.new.fetches ≡ self.old.fetches }
+        ensures asks_nothing { (self.new.fetches ≡ self.old.fetches) × (self.new.names_file ≡ self.old.names_file) }
     {
         if is_space(token) {
             return Ok(value);
@@ -146,7 +146,7 @@ impl State {
     /// An operand of another form.
     pub fn wrong_operand<T>(&mut self, alloc: Global) -> Result<T, Stop>
         ensures does { Does result self.new (wrong_operand self.old) }
-        ensures asks_nothing { self.new.fetches ≡ self.old.fetches }
+        ensures asks_nothing { (self.new.fetches ≡ self.old.fetches) × (self.new.names_file ≡ self.old.names_file) }
     {
         self.leave_out(alloc, b"operand")
     }

@@ -33,15 +33,22 @@ impl State {
     /// Shows the end of a run at `\end`.
     pub fn end_well(&mut self) -> Result<(), AllocError>
         ensures ok { OnOk result (self.new.printer ≡ ended_well self.old) }
+        ensures budget { self.new.budget ≡ self.old.budget }
+        ensures fetches { self.new.fetches ≡ self.old.fetches }
     {
         self.pending.close_files(&mut self.printer)?;
         report::show_no_pages(&mut self.printer)
     }
 
-    /// Shows the early end of a run.
+    /// Shows the early end of a run. Where memory ran out, it shows nothing, and is refused.
     pub fn end_early(&mut self, alloc: Global, stop: &Stop) -> Result<(), AllocError>
         ensures ok { OnOk result (self.new.printer ≡ ended_early stop.now self.old) }
+        ensures budget { self.new.budget ≡ self.old.budget }
+        ensures fetches { self.new.fetches ≡ self.old.fetches }
     {
+        if let Stop::OutOfMemory = stop {
+            return Err(AllocError);
+        }
         let reason = reason_of(alloc, stop, self.asked.bytes())?;
         report::show_reason(&mut self.printer, &reason)?;
         report::show_no_pages(&mut self.printer)

@@ -1,5 +1,5 @@
 //! Opening a file (The TeXbook, page 214; `tex.web` 537 and 538).
-ghost use Rattle.std.specs.Prelude.{◌≡◌, ◌<◌, ◌≤◌, ◌+◌, true, OnOk};
+ghost use Rattle.std.specs.Prelude.{◌≡◌, ◌<◌, ◌≤◌, ◌+◌, true, false, OnOk};
 ghost use Rattle.stomach.specs.Did.{Does, DoesBy, Ended};
 ghost use Rattle.stomach.specs.Input.{
   naming_line,
@@ -12,8 +12,8 @@ ghost use Rattle.stomach.specs.Input.{
   input,
   with_fetch,
 };
-ghost use Rattle.stomach.specs.Outside.{Heard, IsQuiet, FaultsOnly};
-ghost use Rattle.stomach.specs.Work.{work};
+ghost use Rattle.stomach.specs.Outside.{Heard, IsQuiet, FaultsOnly, IsUnasked};
+ghost use Rattle.stomach.specs.Work.{work, asks};
 
 use crate::file_name::{file_of, job_of};
 use crate::report;
@@ -39,6 +39,8 @@ impl State {
         ensures faults { FaultsOnly result (W.read_faults world.old) (W.read_faults world.new) }
         ensures silent { W.write_faults world.new ≡ W.write_faults world.old }
         ensures counts { self.old.fetches ≤ self.new.fetches }
+        ensures once { asks self.new ≤ asks self.old }
+        ensures unasked { IsUnasked self.old.fetches self.new.fetches (W.read_faults world.old) (W.read_faults world.new) }
     {
         match self.named_file(alloc) {
             Ok(file) => self.open_file(alloc, world, file.bytes()),
@@ -50,7 +52,7 @@ impl State {
     #[tactic(auto, unfolding(crate::specs::Input::named_file))]
     fn named_file(&mut self, alloc: Global) -> Result<Text, Stop>
         ensures does { Does result self.new (named_file self.old) }
-        ensures asks_nothing { self.new.fetches ≡ self.old.fetches }
+        ensures asks_nothing { (self.new.fetches ≡ self.old.fetches) × (self.new.names_file ≡ false) }
     {
         self.names_file = false;
         self.naming_line()?;
@@ -68,7 +70,7 @@ impl State {
     #[tactic(auto, unfolding(crate::specs::Input::naming_line))]
     fn naming_line(&mut self) -> Result<(), Stop>
         ensures does { Does result self.new (naming_line self.old) }
-        ensures asks_nothing { self.new.fetches ≡ self.old.fetches }
+        ensures asks_nothing { (self.new.fetches ≡ self.old.fetches) × (self.new.names_file ≡ self.old.names_file) }
     {
         self.pending
             .begin_behind_word(END_LINE_CHARACTER, &mut self.names, &mut self.budget)
@@ -77,7 +79,7 @@ impl State {
     /// Notes that a file is asked for; the first one names the job.
     fn ask_for(&mut self, alloc: Global, file: &[u8]) -> Result<(), AllocError>
         ensures ok { OnOk result (self.new ≡ asking file.now self.old) }
-        ensures asks_nothing { self.new.fetches ≡ self.old.fetches }
+        ensures asks_nothing { (self.new.fetches ≡ self.old.fetches) × (self.new.names_file ≡ self.old.names_file) }
     {
         if self.job.bytes().is_empty() {
             self.job = Text::new(job_of(alloc, file)?);
@@ -95,6 +97,8 @@ impl State {
         ensures faults { FaultsOnly result (W.read_faults world.old) (W.read_faults world.new) }
         ensures silent { W.write_faults world.new ≡ W.write_faults world.old }
         ensures counts { self.old.fetches ≤ self.new.fetches }
+        ensures once { asks self.new ≤ asks self.old + 1 }
+        ensures unasked { IsUnasked self.old.fetches self.new.fetches (W.read_faults world.old) (W.read_faults world.new) }
     {
         if !is_good_name(file) {
             return self.not_found(alloc, file);
@@ -119,7 +123,7 @@ impl State {
     fn found(&mut self, alloc: Global, file: &[u8], bytes: Vec<u8>) -> Result<(), Stop>
         ensures does { Does result self.new (found file.now bytes.items self.old) }
         ensures less { OnOk result (work self.new ≤ work self.old + 1) }
-        ensures asks_nothing { self.new.fetches ≡ self.old.fetches }
+        ensures asks_nothing { (self.new.fetches ≡ self.old.fetches) × (self.new.names_file ≡ self.old.names_file) }
     {
         match report::show_begun(&mut self.printer, file) {
             Ok(()) => self.opened(alloc, bytes),
@@ -131,7 +135,7 @@ impl State {
     #[tactic(auto, unfolding(crate::specs::Input::opened))]
     fn opened(&mut self, alloc: Global, bytes: Vec<u8>) -> Result<(), Stop>
         ensures does { Does result self.new (opened bytes.items self.old) }
-        ensures asks_nothing { self.new.fetches ≡ self.old.fetches }
+        ensures asks_nothing { (self.new.fetches ≡ self.old.fetches) × (self.new.names_file ≡ self.old.names_file) }
     {
         let mut eye = Eye::new(alloc, bytes, LINE_FEED, true);
         first_line(&mut eye, END_LINE_CHARACTER, &self.names, &mut self.budget)?;
@@ -144,7 +148,7 @@ impl State {
     /// The end of a run at a file that isn't there.
     fn not_found(&mut self, alloc: Global, file: &[u8]) -> Result<(), Stop>
         ensures does { Does result self.new (not_found file.now self.old) }
-        ensures asks_nothing { self.new.fetches ≡ self.old.fetches }
+        ensures asks_nothing { (self.new.fetches ≡ self.old.fetches) × (self.new.names_file ≡ self.old.names_file) }
     {
         match file.to_vec(alloc) {
             Ok(file) => Err(Stop::Trouble(Kind::FileNotFound(Text::new(file)))),

@@ -1,10 +1,11 @@
 //! The machine: a whole run, from its first line to its last (`tex.web` 1332).
-ghost use Rattle.std.specs.Prelude.{◌≡◌, ◌<◌, ◌≤◌, true, IfOk};
+ghost use Rattle.std.specs.Prelude.{◌≡◌, ◌<◌, ◌≤◌, true, IfOk, OnOk};
 ghost use Rattle.stomach.specs.Did.{Does, DoesBy, Ended};
-ghost use Rattle.stomach.specs.Outside.{Heard, IsQuiet, FaultsOnly};
+ghost use Rattle.stomach.specs.Outside.{Heard, HeardAll, IsQuiet, SameFiles, FaultsOnly, IsUnasked};
 ghost use Rattle.stomach.specs.Turn.{turn};
-ghost use Rattle.stomach.specs.Work.{work};
-ghost use Rattle.stomach.specs.Machine.{begins_with_name, beginning, TurnsLaw};
+ghost use Rattle.stomach.specs.Work.{work, asks};
+ghost use Rattle.stomach.specs.Ending.{exit_by, output_by, exit_after, Whole, IsOutcome, outcome_of};
+ghost use Rattle.stomach.specs.Machine.{begins_with_name, beginning, turns, TurnsLaw};
 
 use crate::ending::{Exit, exit_of};
 use crate::pending::Pending;
@@ -31,6 +32,8 @@ pub struct Ended {
     pub exit: Exit,
     /// How many steps it took.
     pub steps: u64,
+    /// How many files it asked the world for, at most 2^64 - 1.
+    pub fetches: u64,
 }
 
 /// A run of TeX.
@@ -66,25 +69,38 @@ impl Machine {
         ensures faults { FaultsOnly result (W.read_faults world.old) (W.read_faults world.new) }
         ensures silent { W.write_faults world.new ≡ W.write_faults world.old }
         ensures counts { self.old.fetches ≤ self.new.fetches }
+        ensures once { asks self.new ≤ asks self.old }
+        ensures unasked { IsUnasked self.old.fetches self.new.fetches (W.read_faults world.old) (W.read_faults world.new) }
     {
         self.state.turn(self.alloc, world)
     }
 
     /// All turns, and the ending.
-    pub fn run<W: World>(mut self, world: &mut W) -> Ended {
+    pub fn run<W: World>(mut self, world: &mut W) -> Ended
+        ensures machine { HeardAll (W.told world.old) (W.read_faults world.old) (W.read_faults world.new) self.fetches result.fetches
+            (λ t outside. Whole result.exit (IsOutcome (outcome_of (turns outside self)) result t (W.told world.new))) }
+        ensures once { result.fetches ≤ asks self }
+        ensures files { SameFiles (W.told world.old) (W.told world.new) }
+    {
         let ending = self.turns(world);
-        let exit = self.conclude(ending);
-        let exit = match self.state.printer.flush(world) {
-            Ok(()) => exit,
-            Err(WorldError::Failed) => Exit::WriteFault,
-            Err(WorldError::OutOfMemory) => Exit::OutOfMemory,
-        };
-        let steps = self.state.budget.used();
-        Ended { exit, steps }
+        let concluded = self.conclude(&ending);
+        let shown = self.state.printer.flush(world);
+        Ended {
+            exit: exit_after(concluded, shown),
+            steps: self.state.budget.used(),
+            fetches: self.state.fetches,
+        }
     }
 
     /// All turns. Each leaves less work to be done.
-    fn turns<W: World>(&mut self, world: &mut W) -> Result<(), Stop> {
+    fn turns<W: World>(&mut self, world: &mut W) -> Result<(), Stop>
+        ensures heard { HeardAll (W.told world.old) (W.read_faults world.old) (W.read_faults world.new) self.old.fetches self.new.fetches
+            (λ t outside. Does result self.new (turns outside self.old)) }
+        ensures quiet { IsQuiet (W.told world.old) (W.told world.new) }
+        ensures faults { FaultsOnly result (W.read_faults world.old) (W.read_faults world.new) }
+        ensures silent { W.write_faults world.new ≡ W.write_faults world.old }
+        ensures once { asks self.new ≤ asks self.old }
+    {
         'turns: loop {
             match self.step(world) {
                 Ok(true) => {}
@@ -94,19 +110,37 @@ impl Machine {
         }
     }
 
-    /// Shows the ending, and tells the exit.
-    fn conclude(&mut self, ending: Result<(), Stop>) -> Exit {
+    /// Shows the ending, and tells the exit. Where memory ran out, nothing more is shown.
+    fn conclude(&mut self, ending: &Result<(), Stop>) -> Result<Exit, AllocError>
+        ensures exit { IfOk result (λ exit. exit ≡ exit_by ending.now) }
+        ensures output { OnOk result (self.new.printer ≡ output_by ending.now self.old) }
+        ensures budget { self.new.budget ≡ self.old.budget }
+        ensures fetches { self.new.fetches ≡ self.old.fetches }
+    {
         match ending {
-            Ok(()) => match self.state.end_well() {
-                Ok(()) => Exit::Done,
-                Err(_) => Exit::OutOfMemory,
-            },
-            Err(Stop::OutOfMemory) => Exit::OutOfMemory,
-            Err(stop) => match self.state.end_early(self.alloc, &stop) {
-                Ok(()) => exit_of(&stop),
-                Err(_) => Exit::OutOfMemory,
-            },
+            Ok(()) => {
+                self.state.end_well()?;
+                Ok(Exit::Done)
+            }
+            Err(stop) => {
+                self.state.end_early(self.alloc, stop)?;
+                Ok(exit_of(stop))
+            }
         }
+    }
+}
+
+/// The exit of a run, by how it ended and whether its text was shown.
+fn exit_after(concluded: Result<Exit, AllocError>, shown: Result<(), WorldError>) -> Exit
+    ensures value { result ≡ exit_after concluded shown }
+{
+    match shown {
+        Err(WorldError::Failed) => Exit::WriteFault,
+        Err(WorldError::OutOfMemory) => Exit::OutOfMemory,
+        Ok(()) => match concluded {
+            Ok(exit) => exit,
+            Err(_) => Exit::OutOfMemory,
+        },
     }
 }
 

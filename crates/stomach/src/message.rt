@@ -25,7 +25,7 @@ impl State {
     #[tactic(auto, unfolding(crate::specs::Message::message))]
     pub fn message(&mut self, alloc: Global) -> Result<(), Stop>
         ensures does { Does result self.new (message self.old) }
-        ensures asks_nothing { self.new.fetches ≡ self.old.fetches }
+        ensures asks_nothing { (self.new.fetches ≡ self.old.fetches) × (self.new.names_file ≡ self.old.names_file) }
     {
         self.left_brace(alloc)?;
         let tokens = self.balanced_text(alloc)?;
@@ -47,7 +47,7 @@ impl State {
     /// Passes spaces and `\relax`, up to a left brace.
     fn left_brace(&mut self, alloc: Global) -> Result<(), Stop>
         ensures does { Does result self.new (left_brace self.old) }
-        ensures asks_nothing { self.new.fetches ≡ self.old.fetches }
+        ensures asks_nothing { (self.new.fetches ≡ self.old.fetches) × (self.new.names_file ≡ self.old.names_file) }
     {
         'brace: loop {
             match self.brace_turn(alloc) {
@@ -61,7 +61,7 @@ impl State {
     /// Takes a token in front of a text. The answer is whether a brace is still wanted.
     fn brace_turn(&mut self, alloc: Global) -> Result<bool, Stop>
         ensures does { Does result self.new (brace_turn self.old) }
-        ensures asks_nothing { self.new.fetches ≡ self.old.fetches }
+        ensures asks_nothing { (self.new.fetches ≡ self.old.fetches) × (self.new.names_file ≡ self.old.names_file) }
     {
         let token = self.operand_token(alloc)?;
         self.brace_token(alloc, token)
@@ -69,7 +69,7 @@ impl State {
 
     fn brace_token(&mut self, alloc: Global, token: Token) -> Result<bool, Stop>
         ensures does { Does result self.new (brace_token (token, self.old)) }
-        ensures asks_nothing { self.new.fetches ≡ self.old.fetches }
+        ensures asks_nothing { (self.new.fetches ≡ self.old.fetches) × (self.new.names_file ≡ self.old.names_file) }
     {
         match token {
             Token::Char { cat, byte: _ } => {
@@ -97,7 +97,7 @@ impl State {
     /// Takes the tokens up to the right brace of the text.
     fn balanced_text(&mut self, alloc: Global) -> Result<Vec<Token>, Stop>
         ensures does { DoesBy (λ text. text.items) result self.new (balanced_text self.old) }
-        ensures asks_nothing { self.new.fetches ≡ self.old.fetches }
+        ensures asks_nothing { (self.new.fetches ≡ self.old.fetches) × (self.new.names_file ≡ self.old.names_file) }
     {
         let mut text = Vec::new(alloc);
         let mut braces = 0usize;
@@ -121,7 +121,7 @@ impl State {
         ensures does { Does result (gathering text.new.items braces.new self.new)
             (text_turn (gathering text.old.items braces.old self.old)) }
         ensures few { braces.new ≤ length text.new.items }
-        ensures asks_nothing { self.new.fetches ≡ self.old.fetches }
+        ensures asks_nothing { (self.new.fetches ≡ self.old.fetches) × (self.new.names_file ≡ self.old.names_file) }
     {
         match self.operand_token(alloc) {
             Ok(token) => self.text_token(alloc, text, braces, token),
@@ -141,7 +141,7 @@ impl State {
         ensures does { Does result (gathering text.new.items braces.new self.new)
             (text_token (token, gathering text.old.items braces.old self.old)) }
         ensures few { braces.new ≤ length text.new.items }
-        ensures asks_nothing { self.new.fetches ≡ self.old.fetches }
+        ensures asks_nothing { (self.new.fetches ≡ self.old.fetches) × (self.new.names_file ≡ self.old.names_file) }
     {
         match token {
             Token::Char { cat, byte: _ } => {

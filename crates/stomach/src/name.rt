@@ -12,7 +12,7 @@ impl State {
     /// Reads a name: characters, up to a space or another token.
     pub fn file_name(&mut self, alloc: Global) -> Result<Text, Stop>
         ensures does { Does result self.new (file_name self.old) }
-        ensures asks_nothing { self.new.fetches ≡ self.old.fetches }
+        ensures asks_nothing { (self.new.fetches ≡ self.old.fetches) × (self.new.names_file ≡ self.old.names_file) }
     {
         let mut name = Vec::new(alloc);
         'name: loop {
@@ -27,7 +27,7 @@ impl State {
     /// Takes a token of a name. The answer is whether the name goes on.
     fn name_turn(&mut self, alloc: Global, name: &mut Vec<u8>) -> Result<bool, Stop>
         ensures does { Does result (naming name.new.items self.new) (name_turn (naming name.old.items self.old)) }
-        ensures asks_nothing { self.new.fetches ≡ self.old.fetches }
+        ensures asks_nothing { (self.new.fetches ≡ self.old.fetches) × (self.new.names_file ≡ self.old.names_file) }
     {
         match self.operand_token(alloc) {
             Ok(token) => self.name_token(alloc, name, token),
@@ -37,7 +37,7 @@ impl State {
 
     fn name_token(&mut self, alloc: Global, name: &mut Vec<u8>, token: Token) -> Result<bool, Stop>
         ensures does { Does result (naming name.new.items self.new) (name_token (token, naming name.old.items self.old)) }
-        ensures asks_nothing { self.new.fetches ≡ self.old.fetches }
+        ensures asks_nothing { (self.new.fetches ≡ self.old.fetches) × (self.new.names_file ≡ self.old.names_file) }
     {
         match token {
             Token::Char { cat, byte } => {
@@ -65,7 +65,7 @@ impl State {
     /// Ends a name before a token.
     fn name_ended(&mut self, token: Token) -> Result<bool, Stop>
         ensures does { (name : List ℕ) → Does result (naming name self.new) (name_ended token (naming name self.old)) }
-        ensures asks_nothing { self.new.fetches ≡ self.old.fetches }
+        ensures asks_nothing { (self.new.fetches ≡ self.old.fetches) × (self.new.names_file ≡ self.old.names_file) }
     {
         match self.put_back(token) {
             Ok(()) => Ok(false),

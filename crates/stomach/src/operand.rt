@@ -17,7 +17,7 @@ impl State {
     #[tactic(auto, unfolding(crate::specs::Operand::take))]
     pub fn take(&mut self) -> Result<Event, Stop>
         ensures does { Does result self.new (take self.old) }
-        ensures asks_nothing { self.new.fetches ≡ self.old.fetches }
+        ensures asks_nothing { (self.new.fetches ≡ self.old.fetches) × (self.new.names_file ≡ self.old.names_file) }
     {
         self.pending.next(
             &self.categories,
@@ -31,7 +31,7 @@ impl State {
     #[tactic(auto, unfolding(crate::specs::Operand::operand_token))]
     pub fn operand_token(&mut self, alloc: Global) -> Result<Token, Stop>
         ensures does { Does result self.new (operand_token self.old) }
-        ensures asks_nothing { self.new.fetches ≡ self.old.fetches }
+        ensures asks_nothing { (self.new.fetches ≡ self.old.fetches) × (self.new.names_file ≡ self.old.names_file) }
     {
         match self.take() {
             Ok(event) => self.operand_of(alloc, event),
@@ -41,7 +41,7 @@ impl State {
 
     fn operand_of(&mut self, alloc: Global, event: Event) -> Result<Token, Stop>
         ensures does { Does result self.new (operand_by (event, self.old)) }
-        ensures asks_nothing { self.new.fetches ≡ self.old.fetches }
+        ensures asks_nothing { (self.new.fetches ≡ self.old.fetches) × (self.new.names_file ≡ self.old.names_file) }
     {
         match event {
             Event::Token(token) => Ok(token),
@@ -61,7 +61,7 @@ impl State {
     /// Shows the end of a source, if it is a file.
     pub fn show_source_over(&mut self, is_file: bool) -> Result<(), AllocError>
         ensures ok { OnOk result (self.new ≡ source_over is_file self.old) }
-        ensures asks_nothing { self.new.fetches ≡ self.old.fetches }
+        ensures asks_nothing { (self.new.fetches ≡ self.old.fetches) × (self.new.names_file ≡ self.old.names_file) }
     {
         if is_file {
             report::show_over(&mut self.printer)
@@ -73,7 +73,7 @@ impl State {
     /// Puts a token back, to be taken again without a step.
     pub fn put_back(&mut self, token: Token) -> Result<(), AllocError>
         ensures ok { OnOk result (self.new ≡ put_back token self.old) }
-        ensures asks_nothing { self.new.fetches ≡ self.old.fetches }
+        ensures asks_nothing { (self.new.fetches ≡ self.old.fetches) × (self.new.names_file ≡ self.old.names_file) }
     {
         self.pending.put_back(token)
     }
@@ -81,7 +81,7 @@ impl State {
     /// The end of a run at something that this program leaves out.
     pub fn leave_out<T>(&mut self, alloc: Global, what: &[u8]) -> Result<T, Stop>
         ensures does { Does result self.new (left_out what.now self.old) }
-        ensures asks_nothing { self.new.fetches ≡ self.old.fetches }
+        ensures asks_nothing { (self.new.fetches ≡ self.old.fetches) × (self.new.names_file ≡ self.old.names_file) }
     {
         match what.to_vec(alloc) {
             Ok(what) => Err(Stop::Trouble(Kind::LeftOut(Text::new(what)))),
@@ -92,7 +92,7 @@ impl State {
     /// The end of a run at a token without a meaning.
     pub fn undefined<T>(&mut self, alloc: Global, token: Token) -> Result<T, Stop>
         ensures does { Does result self.new (undefined token self.old) }
-        ensures asks_nothing { self.new.fetches ≡ self.old.fetches }
+        ensures asks_nothing { (self.new.fetches ≡ self.old.fetches) × (self.new.names_file ≡ self.old.names_file) }
     {
         match token_shown(alloc, token, &self.names, ESCAPE_CHARACTER) {
             Ok(shown) => Err(Stop::Trouble(Kind::UndefinedCs(Text::new(shown)))),

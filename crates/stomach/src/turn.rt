@@ -4,8 +4,8 @@ ghost use Rattle.std.specs.Prelude.{◌≡◌, ◌<◌, ◌≤◌, true, IfOk};
 ghost use Rattle.stomach.specs.Command.{command_of};
 ghost use Rattle.stomach.specs.Did.{Does, DoesBy, Ended};
 ghost use Rattle.stomach.specs.Turn.{turn, plain_turn, by_event, executed};
-ghost use Rattle.stomach.specs.Outside.{Heard, IsQuiet, FaultsOnly};
-ghost use Rattle.stomach.specs.Work.{work};
+ghost use Rattle.stomach.specs.Outside.{Heard, IsQuiet, FaultsOnly, IsUnasked};
+ghost use Rattle.stomach.specs.Work.{work, asks};
 
 use crate::command::{Command, command_of};
 use crate::pending::Event;
@@ -24,6 +24,8 @@ impl State {
         ensures faults { FaultsOnly result (W.read_faults world.old) (W.read_faults world.new) }
         ensures silent { W.write_faults world.new ≡ W.write_faults world.old }
         ensures counts { self.old.fetches ≤ self.new.fetches }
+        ensures once { asks self.new ≤ asks self.old }
+        ensures unasked { IsUnasked self.old.fetches self.new.fetches (W.read_faults world.old) (W.read_faults world.new) }
     {
         if self.names_file {
             match self.input(alloc, world) {
@@ -39,7 +41,7 @@ impl State {
     #[tactic(auto, unfolding(crate::specs::Turn::plain_turn))]
     fn plain_turn(&mut self, alloc: Global) -> Result<bool, Stop>
         ensures does { Does result self.new (plain_turn self.old) }
-        ensures asks_nothing { self.new.fetches ≡ self.old.fetches }
+        ensures asks_nothing { (self.new.fetches ≡ self.old.fetches) × (self.new.names_file ≡ self.old.names_file) }
     {
         match self.take() {
             Ok(event) => self.by_event(alloc, event),
@@ -49,7 +51,7 @@ impl State {
 
     fn by_event(&mut self, alloc: Global, event: Event) -> Result<bool, Stop>
         ensures does { Does result self.new (by_event (event, self.old)) }
-        ensures asks_nothing { self.new.fetches ≡ self.old.fetches }
+        ensures asks_nothing { (self.new.fetches ≡ self.old.fetches) × (self.new.names_file ≡ self.old.names_file) }
     {
         match event {
             Event::Token(token) => self.execute(alloc, token, command_of(token)),
@@ -64,7 +66,7 @@ impl State {
     /// Carries out a command. The answer is whether the run goes on.
     fn execute(&mut self, alloc: Global, token: Token, command: Command) -> Result<bool, Stop>
         ensures does { Does result self.new (executed token self.old command) }
-        ensures asks_nothing { self.new.fetches ≡ self.old.fetches }
+        ensures asks_nothing { (self.new.fetches ≡ self.old.fetches) × (self.new.names_file ≡ self.old.names_file) }
     {
         match command {
             Command::Space | Command::Relax | Command::Par => Ok(true),

@@ -17,7 +17,7 @@ text-preserved c = record {
       (gathering c.text_turn.new.text.items c.text_turn.new.braces c.text_turn.new.self)
       (rw c.in-Ok-true.field-0-test at c.in-Ok-true.ensures.does)) ∙ c.text.invariant.same;
   few = c.in-Ok-true.ensures.few;
-  asks_nothing = c.in-Ok-true.ensures.asks_nothing ∙ c.text.invariant.asks_nothing;
+  asks_nothing = (c.in-Ok-true.ensures.asks_nothing.0 ∙ c.text.invariant.asks_nothing.0, c.in-Ok-true.ensures.asks_nothing.1 ∙ c.text.invariant.asks_nothing.1);
 }
 
 pub returns-in-Ok-false : goal.returns-in-Ok-false
@@ -30,7 +30,7 @@ returns-in-Ok-false c = record {
       (sym begun ∙ again-enough gathering_work text_turn text_turn-falls (gathering c.text.text.items c.text.braces c.text.self)
       (gathering c.text_turn.new.text.items c.text_turn.new.braces c.text_turn.new.self)
       (rw c.in-Ok-false.field-0-test at c.in-Ok-false.ensures.does));
-  asks_nothing = c.in-Ok-false.ensures.asks_nothing ∙ c.text.invariant.asks_nothing;
+  asks_nothing = (c.in-Ok-false.ensures.asks_nothing.0 ∙ c.text.invariant.asks_nothing.0, c.in-Ok-false.ensures.asks_nothing.1 ∙ c.text.invariant.asks_nothing.1);
 }
 
 pub returns-in-Err : goal.returns-in-Err
@@ -43,5 +43,5 @@ returns-in-Err c = record {
       (λ e. balanced_text-is c.args.self.now ∙ ap (lowered (λ g. g.text) (λ g. g.state)) (sym begun ∙ e))
       (again-ended gathering_work text_turn text_turn-falls c.in-Err.stop (gathering c.text.text.items c.text.braces c.text.self)
       (gathering c.text_turn.new.text.items c.text_turn.new.braces c.text_turn.new.self) c.in-Err.ensures.does);
-  asks_nothing = c.in-Err.ensures.asks_nothing ∙ c.text.invariant.asks_nothing;
+  asks_nothing = (c.in-Err.ensures.asks_nothing.0 ∙ c.text.invariant.asks_nothing.0, c.in-Err.ensures.asks_nothing.1 ∙ c.text.invariant.asks_nothing.1);
 }

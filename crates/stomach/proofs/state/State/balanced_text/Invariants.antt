@@ -9,7 +9,7 @@ invariant-text l = record {
   same : again gathering_work text_turn (gathering l.text.items l.braces l.self)
       ≡ again gathering_work text_turn (gathering l.initial.text.items l.initial.braces l.initial.self);
   few : l.braces ≤ length l.text.items;
-  asks_nothing : l.self.fetches ≡ l.initial.self.fetches;
+  asks_nothing : (l.self.fetches ≡ l.initial.self.fetches) × (l.self.names_file ≡ l.initial.self.names_file);
 }
 
 abbrev pub decreases-text : goal.decreases-text

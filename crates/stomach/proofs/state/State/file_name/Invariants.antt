@@ -8,7 +8,7 @@ abbrev pub invariant-name : goal.invariant-name
 invariant-name l = record {
   same : again naming_work name_turn (naming l.name.items l.self)
       ≡ again naming_work name_turn (naming l.initial.name.items l.initial.self);
-  asks_nothing : l.self.fetches ≡ l.initial.self.fetches;
+  asks_nothing : (l.self.fetches ≡ l.initial.self.fetches) × (l.self.names_file ≡ l.initial.self.names_file);
 }
 
 abbrev pub decreases-name : goal.decreases-name

@@ -13,8 +13,8 @@ returns-in-Ok-clause-heard g c t told below failing agrees =
     does-by c.open_file.result c.open_file.new.self _ _
     (input-then (outside_of t failing) c.args.self.now c.named_file.new.self c.in-Ok.file c.in-Ok.ensures.does)
     (subst P c.bytes.ensures
-    (c.open_file.ensures.heard t told (omega (arith, below, c.in-Ok.ensures.asks_nothing)) failing
-    (λ other. agrees (λ e. other (e ∙ sym c.in-Ok.ensures.asks_nothing)))))
+    (c.open_file.ensures.heard t told (omega (arith, below, c.in-Ok.ensures.asks_nothing.0)) failing
+    (λ other. agrees (λ e. other (e ∙ sym c.in-Ok.ensures.asks_nothing.0)))))
 
 pub returns-in-Ok-clause-less : goal.returns-in-Ok-clause-less
 returns-in-Ok-clause-less g c =

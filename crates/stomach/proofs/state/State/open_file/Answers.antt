@@ -18,7 +18,7 @@ returns-in-Ok-Some-clause-heard g c t told below failing agrees =
     does-by c.found.result c.found.new.self _ _
     (open_file-found (outside_of t failing) c.args.file.now c.args.self.now (sym c.if-not-is_good_name.ensures) c.in-Ok-Some.bytes.items
     (heard_well failing c.args.self.now.fetches c.found.new.self.fetches _ _ below
-    (c.found.ensures.asks_nothing ∙ ap (λ (s : State). s.fetches) c.count_fetch.ensures.value) c.in-Ok-Some.ensures.read_fault agrees)
+    (c.found.ensures.asks_nothing.0 ∙ ap (λ (s : State). s.fetches) c.count_fetch.ensures.value) c.in-Ok-Some.ensures.read_fault agrees)
     (fetched_some c.args.file.now c.in-Ok-Some.field-0 c.in-Ok-Some.bytes (g.W.World.told c.args.world.now) (g.W.World.told c.fetch.new.self) t c.in-Ok-Some.field-0-is c.in-Ok-Some.ensures.answer told))
     (subst P c.count_fetch.ensures.value c.found.ensures.does)
 
@@ -28,7 +28,7 @@ returns-in-Ok-None-clause-heard g c t told below failing agrees =
     does-by c.not_found-in-Ok-None.result c.not_found-in-Ok-None.new.self _ _
     (open_file-absent (outside_of t failing) c.args.file.now c.args.self.now (sym c.if-not-is_good_name.ensures)
     (heard_well failing c.args.self.now.fetches c.not_found-in-Ok-None.new.self.fetches _ _ below
-    (c.not_found-in-Ok-None.ensures.asks_nothing ∙ ap (λ (s : State). s.fetches) c.count_fetch.ensures.value) c.in-Ok-None.ensures.read_fault agrees)
+    (c.not_found-in-Ok-None.ensures.asks_nothing.0 ∙ ap (λ (s : State). s.fetches) c.count_fetch.ensures.value) c.in-Ok-None.ensures.read_fault agrees)
     (fetched_none c.args.file.now c.in-Ok-None.field-0 (g.W.World.told c.args.world.now) (g.W.World.told c.fetch.new.self) t c.in-Ok-None.field-0-is c.in-Ok-None.ensures.answer told))
     (subst P c.count_fetch.ensures.value c.not_found-in-Ok-None.ensures.does)
 

@@ -1,0 +1,38 @@
+use Rattle.std.proofs.Common.{◌≡◌, ◌∙◌, sym, ap, subst}
+use Rattle.tokens.specs.Budget.{Allowance}
+use Rattle.world.specs.Told.{Told}
+use Rattle.stomach.specs.declared.ending.Exit.{Exit}
+use Rattle.stomach.specs.declared.state.State.{State}
+use Rattle.stomach.specs.Did.{Does}
+use Rattle.stomach.specs.Ending.{Whole, IsOutcome, outcome_of, output_by}
+use Rattle.stomach.specs.Machine.{turns}
+use Rattle.stomach.specs.Outside.{Outside, outside_of}
+use Rattle.stomach.proofs.Hearing.{on_ok-map}
+use Rattle.stomach.proofs.Turns.{outcome_any, heard_all-by, files_stay}
+use Rattle.stomach.proofs.machine.Machine.run.Goals as goal
+
+pub returns-clause-machine : goal.returns-clause-machine
+returns-clause-machine g c t told below failing missed last =
+    let same_fetches : c.self.inside.state.fetches ≡ c.turns-ending.new.self.fetches =
+    ap (λ (s : State). s.fetches) c.self.view_is ∙ c.conclude-concluded.ensures.fetches in
+    let same_steps : c.used.result ≡ c.turns-ending.new.self.budget.used =
+    c.used.ensures.value ∙ ap (λ (s : State). s.budget.used) c.self.view_is ∙ ap (λ (b : Allowance). b.used) c.conclude-concluded.ensures.budget in
+    let does : Does c.turns-ending.result c.turns-ending.new.self (turns (outside_of t failing) c.args.self) =
+    heard_all-by (g.W.World.told c.args.world.now) (g.W.World.read_faults c.args.world.now) (g.W.World.read_faults c.turns-ending.new.world)
+    (g.W.World.read_faults c.flush-shown.new.world) c.args.self.fetches c.turns-ending.new.self.fetches c.self.inside.state.fetches
+    (λ (t : Told) (outside : Outside). Does c.turns-ending.result c.turns-ending.new.self (turns outside c.args.self))
+    c.flush-shown.ensures.read_fault same_fetches c.turns-ending.ensures.heard t told below failing missed last in
+    let P = λ (x : Exit). Whole x (IsOutcome (outcome_of (turns (outside_of t failing) c.args.self))
+    (record { exit = x; steps = c.used.result; fetches = c.self.inside.state.fetches }) t (g.W.World.told c.flush-shown.new.world)) in
+    subst P (sym c.exit_after.ensures.value)
+    (outcome_any t (g.W.World.told c.args.world.now) (g.W.World.told c.turns-ending.new.world) (g.W.World.told c.flush-shown.new.world) told
+    c.turns-ending.ensures.quiet c.used.result c.self.inside.state.fetches c.self.inside.state.printer (turns (outside_of t failing) c.args.self)
+    c.turns-ending.new.self same_steps same_fetches c.turns-ending.result c.conclude-concluded.result c.flush-shown.result does
+    c.conclude-concluded.ensures.exit
+    (on_ok-map c.conclude-concluded.result _ _ (λ o. ap (λ (s : State). s.printer) c.self.view_is ∙ o) c.conclude-concluded.ensures.output)
+    c.flush-shown.ensures.answer)
+
+pub returns-clause-files : goal.returns-clause-files
+returns-clause-files g c =
+    files_stay c.self.inside.state.printer.unflushed c.flush-shown.result (g.W.World.told c.args.world.now) (g.W.World.told c.turns-ending.new.world)
+    (g.W.World.told c.flush-shown.new.world) c.turns-ending.ensures.quiet c.flush-shown.ensures.answer
