@@ -16,7 +16,7 @@ use Rattle.stomach.specs.Input.{open_file, found, not_found, with_fetch, fetched
 use Rattle.stomach.specs.Again.{MoreFalls}
 use Rattle.stomach.specs.Turn.{turn, plain_turn, goes_on}
 use Rattle.stomach.specs.Work.{work}
-use Rattle.stomach.specs.Outside.{Outside, fails_at, FaultsOnly}
+use Rattle.stomach.specs.Outside.{Outside, fails_at}
 
 -- a name that isn't good
 pub open_file-bad : (outside : Outside) (file : List ℕ) (s : State) → is_good file ≡ false → open_file outside file s ≡ not_found file s
@@ -98,16 +98,6 @@ fetched_none {Z} name o old new t k h e = at new
     at : (new : Option Told) → WhereTold (FetchTells {Z = Z} name (Ok None)) (Some t) new → tree.get t.files name ≡ None
     at None h = absurd h
     at (Some u) h = sym h.0
-
--- a count that stays suits every answer
-pub faults-same : {A : Type 0} (r : Result A Stop) (before after : ℕ) → after ≡ before → FaultsOnly r before after
-faults-same (Ok value) before after e = e
-faults-same (Err (Trouble kind)) before after e = e
-faults-same (Err (Capacity cap)) before after e = e
-faults-same (Err Spent) before after e = e
-faults-same (Err ReadFault) before after e = omega (arith, e)
-faults-same (Err WriteFault) before after e = e
-faults-same (Err OutOfMemory) before after e = e
 
 -- where a world tells, the count of a failed call rises
 pub rises-told : (A : Type 0) (told : Option Told) (t : Told) (error : WorldError) (before after : ℕ) → told ≡ Some t → error ≡ Failed

@@ -4,5 +4,7 @@ pub mod Falls
 pub mod NameFalls
 pub mod MessageFalls
 pub mod TurnFalls
+pub mod Faultless
+pub mod Counting
 pub mod Hearing
 pub mod Turns

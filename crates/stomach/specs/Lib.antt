@@ -14,5 +14,6 @@ pub mod Message
 pub mod Input
 pub mod Turn
 pub mod Ending
+pub mod Faults
 pub mod Machine
 pub mod Example

@@ -12,7 +12,7 @@ ghost use Rattle.stomach.specs.Input.{
   input,
   with_fetch,
 };
-ghost use Rattle.stomach.specs.Outside.{Heard, IsQuiet, FaultsOnly, IsUnasked};
+ghost use Rattle.stomach.specs.Outside.{Heard, IsQuiet, FaultsOnly, IsUnasked, UnlessMemory, IsCounted};
 ghost use Rattle.stomach.specs.Work.{work, asks};
 
 use crate::file_name::{file_of, job_of};
@@ -36,7 +36,8 @@ impl State {
             (λ outside. Does result self.new (input outside self.old)) }
         ensures less { OnOk result (work self.new < work self.old) }
         ensures quiet { IsQuiet (W.told world.old) (W.told world.new) }
-        ensures faults { FaultsOnly result (W.read_faults world.old) (W.read_faults world.new) }
+        ensures fetched { UnlessMemory result (IsCounted self.old.fetches self.new.fetches (W.told world.old) (W.told world.new)) }
+        ensures faults { FaultsOnly (W.told world.old) result (W.read_faults world.old) (W.read_faults world.new) }
         ensures silent { W.write_faults world.new ≡ W.write_faults world.old }
         ensures counts { self.old.fetches ≤ self.new.fetches }
         ensures once { asks self.new ≤ asks self.old }
@@ -94,7 +95,8 @@ impl State {
             (λ outside. Does result self.new (open_file outside file.now self.old)) }
         ensures less { OnOk result (work self.new ≤ work self.old + 1) }
         ensures quiet { IsQuiet (W.told world.old) (W.told world.new) }
-        ensures faults { FaultsOnly result (W.read_faults world.old) (W.read_faults world.new) }
+        ensures fetched { UnlessMemory result (IsCounted self.old.fetches self.new.fetches (W.told world.old) (W.told world.new)) }
+        ensures faults { FaultsOnly (W.told world.old) result (W.read_faults world.old) (W.read_faults world.new) }
         ensures silent { W.write_faults world.new ≡ W.write_faults world.old }
         ensures counts { self.old.fetches ≤ self.new.fetches }
         ensures once { asks self.new ≤ asks self.old + 1 }

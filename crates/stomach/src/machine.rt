@@ -1,10 +1,11 @@
 //! The machine: a whole run, from its first line to its last (`tex.web` 1332).
 ghost use Rattle.std.specs.Prelude.{◌≡◌, ◌<◌, ◌≤◌, true, IfOk, OnOk};
 ghost use Rattle.stomach.specs.Did.{Does, DoesBy, Ended};
-ghost use Rattle.stomach.specs.Outside.{Heard, HeardAll, IsQuiet, SameFiles, FaultsOnly, IsUnasked};
+ghost use Rattle.stomach.specs.Outside.{Heard, HeardAll, IsQuiet, SameFiles, FaultsOnly, IsUnasked, UnlessMemory, IsCounted};
 ghost use Rattle.stomach.specs.Turn.{turn};
 ghost use Rattle.stomach.specs.Work.{work, asks};
 ghost use Rattle.stomach.specs.Ending.{exit_by, output_by, exit_after, Whole, IsOutcome, outcome_of};
+ghost use Rattle.stomach.specs.Faults.{ReadFaultWhere, WriteFaultWhere};
 ghost use Rattle.stomach.specs.Machine.{begins_with_name, beginning, turns, TurnsLaw};
 
 use crate::ending::{Exit, exit_of};
@@ -66,7 +67,8 @@ impl Machine {
             (λ outside. Does result self.new (turn outside self.old)) }
         ensures less { IfOk result (λ more. more ≡ true → work self.new < work self.old) }
         ensures quiet { IsQuiet (W.told world.old) (W.told world.new) }
-        ensures faults { FaultsOnly result (W.read_faults world.old) (W.read_faults world.new) }
+        ensures fetched { UnlessMemory result (IsCounted self.old.fetches self.new.fetches (W.told world.old) (W.told world.new)) }
+        ensures faults { FaultsOnly (W.told world.old) result (W.read_faults world.old) (W.read_faults world.new) }
         ensures silent { W.write_faults world.new ≡ W.write_faults world.old }
         ensures counts { self.old.fetches ≤ self.new.fetches }
         ensures once { asks self.new ≤ asks self.old }
@@ -80,6 +82,10 @@ impl Machine {
         ensures machine { HeardAll (W.told world.old) (W.read_faults world.old) (W.read_faults world.new) self.fetches result.fetches
             (λ t outside. Whole result.exit (IsOutcome (outcome_of (turns outside self)) result t (W.told world.new))) }
         ensures once { result.fetches ≤ asks self }
+        ensures fetched { Whole result.exit (IsCounted self.fetches result.fetches (W.told world.old) (W.told world.new)) }
+        ensures read_fault { ReadFaultWhere (W.told world.old) result.exit (W.read_faults world.old) (W.read_faults world.new)
+            (W.write_faults world.old) (W.write_faults world.new) }
+        ensures write_fault { WriteFaultWhere (W.told world.old) result.exit (W.write_faults world.old) (W.write_faults world.new) }
         ensures files { SameFiles (W.told world.old) (W.told world.new) }
     {
         let ending = self.turns(world);
@@ -97,8 +103,10 @@ impl Machine {
         ensures heard { HeardAll (W.told world.old) (W.read_faults world.old) (W.read_faults world.new) self.old.fetches self.new.fetches
             (λ t outside. Does result self.new (turns outside self.old)) }
         ensures quiet { IsQuiet (W.told world.old) (W.told world.new) }
-        ensures faults { FaultsOnly result (W.read_faults world.old) (W.read_faults world.new) }
+        ensures fetched { UnlessMemory result (IsCounted self.old.fetches self.new.fetches (W.told world.old) (W.told world.new)) }
+        ensures faults { FaultsOnly (W.told world.old) result (W.read_faults world.old) (W.read_faults world.new) }
         ensures silent { W.write_faults world.new ≡ W.write_faults world.old }
+        ensures counts { self.old.fetches ≤ self.new.fetches }
         ensures once { asks self.new ≤ asks self.old }
     {
         'turns: loop {

@@ -4,7 +4,7 @@ ghost use Rattle.std.specs.Prelude.{◌≡◌, ◌<◌, ◌≤◌, true, IfOk};
 ghost use Rattle.stomach.specs.Command.{command_of};
 ghost use Rattle.stomach.specs.Did.{Does, DoesBy, Ended};
 ghost use Rattle.stomach.specs.Turn.{turn, plain_turn, by_event, executed};
-ghost use Rattle.stomach.specs.Outside.{Heard, IsQuiet, FaultsOnly, IsUnasked};
+ghost use Rattle.stomach.specs.Outside.{Heard, IsQuiet, FaultsOnly, IsUnasked, UnlessMemory, IsCounted};
 ghost use Rattle.stomach.specs.Work.{work, asks};
 
 use crate::command::{Command, command_of};
@@ -21,7 +21,8 @@ impl State {
             (λ outside. Does result self.new (turn outside self.old)) }
         ensures less { IfOk result (λ more. more ≡ true → work self.new < work self.old) }
         ensures quiet { IsQuiet (W.told world.old) (W.told world.new) }
-        ensures faults { FaultsOnly result (W.read_faults world.old) (W.read_faults world.new) }
+        ensures fetched { UnlessMemory result (IsCounted self.old.fetches self.new.fetches (W.told world.old) (W.told world.new)) }
+        ensures faults { FaultsOnly (W.told world.old) result (W.read_faults world.old) (W.read_faults world.new) }
         ensures silent { W.write_faults world.new ≡ W.write_faults world.old }
         ensures counts { self.old.fetches ≤ self.new.fetches }
         ensures once { asks self.new ≤ asks self.old }

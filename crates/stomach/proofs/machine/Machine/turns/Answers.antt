@@ -1,12 +1,15 @@
 use Rattle.std.proofs.Common.{◌≡◌, ◌∙◌, ◌<◌, ℕ, sym, ap, arith, Ok, Err}
 use Rattle.world.specs.Told.{last_count}
-use Rattle.stomach.specs.Outside.{outside_of}
+use Rattle.stomach.specs.Outside.{outside_of, IsCounted}
+use Rattle.stomach.proofs.Counting.{counted_twice, faults_from, unless_memory-map}
 use Rattle.stomach.proofs.Turns.{turns-more, turns-enough, turns-ended, turns-ended-by, quiet-twice, quiet-tells, turn-outside, agrees_well, agrees_last, missed_well, missed_before}
 use Rattle.stomach.proofs.machine.Machine.turns.Goals as goal
 
 pub turns-preserved : goal.turns-preserved
 turns-preserved g c = record {
   quiet = quiet-twice _ _ _ c.turns.invariant.quiet c.in-Ok-true.ensures.quiet;
+  fetched = counted_twice c.args.self.now.fetches c.turns.self.fetches c.step.new.self.fetches (g.W.World.told c.args.world.now) (g.W.World.told c.turns.world)
+      (g.W.World.told c.step.new.world) c.turns.invariant.counts c.in-Ok-true.ensures.counts c.turns.invariant.fetched c.in-Ok-true.ensures.fetched;
   reads = c.in-Ok-true.ensures.faults ∙ c.turns.invariant.reads;
   writes = c.in-Ok-true.ensures.silent ∙ c.turns.invariant.writes;
   counts = omega (arith, c.turns.invariant.counts, c.in-Ok-true.ensures.counts);
@@ -51,3 +54,22 @@ returns-in-Err-clause-heard g c t told below failing missed last =
     (c.in-Err.ensures.heard u.0 u.1 start failing
     (agrees_last failing c.args.self.now.fetches c.turns.self.fetches c.step.new.self.fetches c.turns.invariant.counts c.in-Err.ensures.counts
     (g.W.World.read_faults c.turns.world) (g.W.World.read_faults c.args.world.now) (g.W.World.read_faults c.step.new.world) c.turns.invariant.reads last))))
+
+pub returns-in-Ok-false-clause-fetched : goal.returns-in-Ok-false-clause-fetched
+returns-in-Ok-false-clause-fetched g c =
+    counted_twice c.args.self.now.fetches c.turns.self.fetches c.step.new.self.fetches (g.W.World.told c.args.world.now) (g.W.World.told c.turns.world)
+    (g.W.World.told c.step.new.world) c.turns.invariant.counts c.in-Ok-false.ensures.counts c.turns.invariant.fetched c.in-Ok-false.ensures.fetched
+
+pub returns-in-Err-clause-fetched : goal.returns-in-Err-clause-fetched
+returns-in-Err-clause-fetched g c =
+    unless_memory-map {A = Unit {0}} (Err c.in-Err.stop)
+    (IsCounted c.turns.self.fetches c.step.new.self.fetches (g.W.World.told c.turns.world) (g.W.World.told c.step.new.world))
+    (IsCounted c.args.self.now.fetches c.step.new.self.fetches (g.W.World.told c.args.world.now) (g.W.World.told c.step.new.world))
+    (counted_twice c.args.self.now.fetches c.turns.self.fetches c.step.new.self.fetches (g.W.World.told c.args.world.now) (g.W.World.told c.turns.world)
+    (g.W.World.told c.step.new.world) c.turns.invariant.counts c.in-Err.ensures.counts c.turns.invariant.fetched)
+    c.in-Err.ensures.fetched
+
+pub returns-in-Err-clause-faults : goal.returns-in-Err-clause-faults
+returns-in-Err-clause-faults g c =
+    faults_from {A = Unit {0}} (g.W.World.told c.turns.world) (g.W.World.told c.args.world.now) (Err c.in-Err.stop) (g.W.World.read_faults c.args.world.now)
+    (g.W.World.read_faults c.turns.world) (g.W.World.read_faults c.step.new.world) c.turns.invariant.quiet c.turns.invariant.reads c.in-Err.ensures.faults

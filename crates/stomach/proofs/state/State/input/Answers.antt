@@ -1,8 +1,10 @@
-use Rattle.std.proofs.Common.{◌+◌, ◌<◌, ◌≤◌, ◌∙◌, sym, arith, subst, List, ℕ}
+use Rattle.std.proofs.Common.{◌+◌, ◌<◌, ◌≤◌, ◌∙◌, sym, arith, subst, refl, Err, List, ℕ}
 use Rattle.stomach.specs.Did.{Does}
-use Rattle.stomach.specs.Input.{open_file}
+use Rattle.stomach.specs.Input.{open_file, named_file}
 use Rattle.stomach.specs.Outside.{outside_of}
 use Rattle.stomach.specs.Work.{work}
+use Rattle.stomach.proofs.Counting.{faults_stay}
+use Rattle.stomach.proofs.Faultless.{faultless-does, named_file-faultless}
 use Rattle.stomach.proofs.Hearing.{does-by, input-then, input-ended, on_ok-map}
 use Rattle.stomach.proofs.TurnFalls.{named_file-less}
 use Rattle.stomach.proofs.state.State.input.Goals as goal
@@ -25,3 +27,8 @@ returns-in-Ok-clause-less g c =
 pub returns-in-Err-clause-heard : goal.returns-in-Err-clause-heard
 returns-in-Err-clause-heard g c t told below failing agrees =
     input-ended (outside_of t failing) c.in-Err.stop c.args.self.now c.named_file.new.self c.in-Err.ensures.does
+
+pub returns-in-Err-clause-faults : goal.returns-in-Err-clause-faults
+returns-in-Err-clause-faults g c =
+    faults_stay {A = Unit {0}} (g.W.World.told c.args.world.now) (Err c.in-Err.stop) (g.W.World.read_faults c.args.world.now) (g.W.World.read_faults c.args.world.now)
+    (faultless-does {B = List ℕ} (λ v. v) (Err c.in-Err.stop) c.named_file.new.self (named_file c.args.self.now) c.in-Err.ensures.does (named_file-faultless c.args.self.now)) refl

@@ -1,9 +1,11 @@
-use Rattle.std.proofs.Common.{◌∙◌, sym, ap, subst, Err, Option, Vec, ℕ, Global}
+use Rattle.std.proofs.Common.{◌∙◌, sym, ap, subst, Ok, Err, Option, Vec, ℕ, Global}
 use Rattle.tokens.specs.declared.stop.Stop.TheVariants.{ReadFault}
 use Rattle.stomach.specs.declared.state.State.{State}
 use Rattle.stomach.specs.Did.{Does}
 use Rattle.stomach.specs.Input.{found, not_found}
 use Rattle.stomach.specs.Outside.{outside_of}
+use Rattle.stomach.proofs.Counting.{faults_stay, counted_one, unless_memory}
+use Rattle.stomach.proofs.Faultless.{faultless-does, found-faultless}
 use Rattle.stomach.proofs.Hearing.{open_file-bad, open_file-failed, open_file-found, open_file-absent, does-by, heard_well, heard_fault, fetched_some, fetched_none, rises-told}
 use Rattle.stomach.proofs.state.State.open_file.Goals as goal
 
@@ -38,3 +40,16 @@ returns-in-Err-Failed-clause-heard g c t told below failing agrees =
     (heard_fault failing c.args.self.now.fetches c.count_fetch.new.self.fetches _ _ below (ap (λ (s : State). s.fetches) c.count_fetch.ensures.value)
     (rises-told (Option (Vec ℕ Global)) (g.W.World.told c.args.world.now) t c.in-Err-Failed.field-0 (g.W.World.read_faults c.args.world.now) (g.W.World.read_faults c.fetch.new.self) told c.in-Err-Failed.field-0-is c.in-Err-Failed.ensures.read_fault) agrees)
     ∙ ap (λ (s : State). Err (ReadFault, s)) (sym c.count_fetch.ensures.value)
+
+pub returns-in-Ok-Some-clause-fetched : goal.returns-in-Ok-Some-clause-fetched
+returns-in-Ok-Some-clause-fetched g c =
+    unless_memory c.found.result _
+    (counted_one c.args.self.now.fetches c.found.new.self.fetches c.args.file.now (Ok c.in-Ok-Some.field-0) (g.W.World.told c.args.world.now) (g.W.World.told c.fetch.new.self)
+    (c.found.ensures.asks_nothing.0 ∙ ap (λ (s : State). s.fetches) c.count_fetch.ensures.value) (λ e. cc) c.in-Ok-Some.ensures.answer)
+
+pub returns-in-Ok-Some-clause-faults : goal.returns-in-Ok-Some-clause-faults
+returns-in-Ok-Some-clause-faults g c =
+    faults_stay (g.W.World.told c.args.world.now) c.found.result (g.W.World.read_faults c.args.world.now) (g.W.World.read_faults c.fetch.new.self)
+    (faultless-does (λ v. v) c.found.result c.found.new.self (found c.args.file.now c.in-Ok-Some.bytes.items c.count_fetch.new.self) c.found.ensures.does
+    (found-faultless c.args.file.now c.in-Ok-Some.bytes.items c.count_fetch.new.self))
+    c.in-Ok-Some.ensures.read_fault
