@@ -1,35 +1,46 @@
 -- What the words of a command line ask for, and how a run on them ends.
-use Rattle.std.specs.Prelude.{◌≡◌, ℕ, ◌==◌, nat_lt, if◌then◌else◌, List, [], ◌∷◌, ◌++◌, Option, None, Some, String}
-use Rattle.std.specs.String.{string_bytes}
-use Rattle.std.specs.declared.alloc.Global.{Global}
+use Rattle.std.specs.Prelude.{◌≡◌, ◌≢◌, ℕ, ◌==◌, if◌then◌else◌, List, [], ◌∷◌, ◌++◌, Option, None, Some}
 use Rattle.world.specs.Told.{Told}
 use Rattle.stomach.specs.declared.ending.Exit.{Exit}
-use Rattle.stomach.specs.declared.ending.Exit.TheVariants.{Usage}
-use Rattle.stomach.specs.Ending.{Outcome, Whole}
+use Rattle.stomach.specs.declared.ending.Exit.TheVariants.{Usage, ReadFault, OutOfMemory}
+use Rattle.stomach.specs.Ending.{Outcome}
 use Rattle.stomach.specs.Machine.{run}
-use Rattle.stomach.specs.Outside.{outside_of}
+use Rattle.stomach.specs.Outside.{Outside, outside_of, counted_more}
 
 -- the first line: a word without the asterisk in front of it, byte 42
 abbrev pub line_of : List ℕ → List ℕ
 line_of [] = []
 line_of (first ∷ rest) = (if first == 42 then rest else first ∷ rest)
 
--- which fetch fails. A run makes one at most, the first, and that fails just where the count of failed reads
--- rises
-abbrev pub failing_of : ℕ → ℕ → Option ℕ
-failing_of before after = (if nat_lt before after then Some 1 else None)
+-- words that are no first line are answered by a text, without a step and without a fetch
+abbrev pub called : List ℕ → Outcome
+called text = record { exit = Usage; output = record { unflushed = text; terminal = 0; log = 0 }; steps = 0; fetches = 0 }
 
--- a run ended with the exit of an outcome, and the terminal shows its text behind what it showed before
-pub record IsRun (o : Outcome) (exit : Exit) (before : Told) (after : Option Told) : Type 0 where
+-- the run on the words of a command line: one word is the first line of a run of so many steps, and any other
+-- words are answered by how the program is called
+abbrev pub run_on : List ℕ → Outside → List (List ℕ) → ℕ → Outcome
+run_on usage outside [] steps = called usage
+run_on usage outside (word ∷ []) steps = run outside (line_of word) steps
+run_on usage outside (word ∷ next ∷ rest) steps = called usage
+
+-- a run ended as an outcome says: with its exit, its text stands on the terminal behind what stood there, so many
+-- more fetches were counted, and the files are as they were
+pub record IsRun (o : Outcome) (exit : Exit) (before after : Told) : Type 0 where
   pub exit_is : exit ≡ o.exit
-  pub terminal : (t : Told) → after ≡ Some t → t.terminal ≡ before.terminal ++ o.output.unflushed
+  pub terminal : after.terminal ≡ before.terminal ++ o.output.unflushed
+  pub fetched : after.fetched ≡ counted_more o.fetches before.fetched
+  pub files : after.files ≡ before.files
 
--- the run on a first line, of so many steps
-abbrev pub RunsLine : List ℕ → ℕ → Exit → Option Told → Option Told → ℕ → ℕ → Type 0
-RunsLine line steps exit old new before after =
-    (t : Told) → old ≡ Some t → Whole exit (IsRun (run (outside_of t (failing_of before after)) line steps) exit t new)
+-- where the world tells, no read and no write failed and memory didn't run out, the run ended as that outcome says
+-- which goes by what the world told
+abbrev pub EndsAs : (Told → Outcome) → Exit → Option Told → Option Told → ℕ → ℕ → ℕ → ℕ → Type 0
+EndsAs outcome exit old new reads reads_after writes writes_after =
+    (t u : Told) → old ≡ Some t → new ≡ Some u → reads_after ≡ reads → writes_after ≡ writes → exit ≢ OutOfMemory
+    → IsRun (outcome t) exit t u
 
--- the words are no first line: that is answered by a text on the terminal
-abbrev pub ShowsUsage : List ℕ → Exit → Option Told → Option Told → Type 0
-ShowsUsage text exit old new =
-    (t : Told) → old ≡ Some t → Whole exit ((exit ≡ Usage) × ((u : Told) → new ≡ Some u → u.terminal ≡ t.terminal ++ text))
+-- where the world tells and the exit is ReadFault, the run ended as that outcome says whose failing fetch is its
+-- last, and so has the number by which the world's count of fetches rose
+abbrev pub FailsAsLast : (Told → Option ℕ → Outcome) → Exit → Option Told → Option Told → Type 0
+FailsAsLast outcome exit old new =
+    (t u : Told) → old ≡ Some t → new ≡ Some u → exit ≡ ReadFault
+    → (n : ℕ) × (((outcome t (Some n)).fetches ≡ n) × IsRun (outcome t (Some n)) exit t u)
