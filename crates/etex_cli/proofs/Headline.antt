@@ -80,22 +80,23 @@ module _ (told new : Option Told) (reads reads' writes writes' : ℕ) (machine :
   is_run failing t u e f w m agrees =
       let below : ended.fetches < last_count = omega (arith, few) in
       let o = shown_whole ended.exit _ w m
-          (heard t e below failing (λ k above under. absurd (omega (arith, few, above, under, starts))) (λ above. agrees (omega (arith, above, starts)))) in
+      (heard t e below failing (λ k above under. absurd (omega (arith, few, above, under, starts))) (λ above. agrees (omega (arith, above, starts)))) in
       let same : outcome_of (turns (outside_of t failing) machine) ≡ run (outside_of t failing) line steps =
-          ap (λ (s : State). outcome_of (turns (outside_of t failing) s)) begins ∙ sym (run-is (outside_of t failing) line steps) in
+      ap (λ (s : State). outcome_of (turns (outside_of t failing) s)) begins ∙ sym (run-is (outside_of t failing) line steps) in
       let more : u.fetched ≡ counted_more (ended.fetches - machine.fetches) t.fetched =
-          where_told (λ t u. u.fetched ≡ counted_more (ended.fetches - machine.fetches) t.fetched) told new t u e f
-          (shown_whole ended.exit (IsCounted machine.fetches ended.fetches told new) w m counted below) in
+      where_told (λ t u. u.fetched ≡ counted_more (ended.fetches - machine.fetches) t.fetched) told new t u e f
+      (shown_whole ended.exit (IsCounted machine.fetches ended.fetches told new) w m counted below) in
       let all : ended.fetches - machine.fetches ≡ ended.fetches = omega (arith, starts) in
       let Q : Outcome → Type 0 = λ r. (r.fetches ≡ ended.fetches) × IsRun r ended.exit t u in
-      subst Q same
-      (sym o.fetches,
-      record {
-        exit_is = o.exit;
-        terminal = o.terminal u f;
-        fetched = more ∙ ap (λ n. counted_more n t.fetched) (all ∙ o.fetches);
-        files = where_told (λ t u. u.files ≡ t.files) told new t u e f files;
-      })
+      subst Q same (
+        sym o.fetches,
+        record {
+          exit_is = o.exit;
+          terminal = o.terminal u f;
+          fetched = more ∙ ap (λ n. counted_more n t.fetched) (all ∙ o.fetches);
+          files = where_told (λ t u. u.files ≡ t.files) told new t u e f files;
+        },
+      )
 
   pub run_ends : EndsAs (λ t. run (outside_of t None) line steps) ended.exit told new reads reads' writes writes'
   run_ends t u e f rs ws m =
@@ -103,10 +104,11 @@ module _ (told new : Option Told) (reads reads' writes writes' : ℕ) (machine :
 
   pub run_fails : FailsAsLast (λ t failing. run (outside_of t failing) line steps) ended.exit told new
   run_fails t u e f x =
-      let rose : reads < reads' = read_rose told t ended.exit reads reads' writes writes' e x read in
-      (ended.fetches,
-      is_run (Some ended.fetches) t u e f (λ h. cc) (λ h. cc)
-      (λ above. eq-eqb ended.fetches ended.fetches refl ∙ sym (lt-ltb reads reads' rose)))
+      let rose : reads < reads' = read_rose told t ended.exit reads reads' writes writes' e x read in (
+        ended.fetches,
+        is_run (Some ended.fetches) t u e f (λ h. cc) (λ h. cc)
+            (λ above. eq-eqb ended.fetches ended.fetches refl ∙ sym (lt-ltb reads reads' rose)),
+      )
 
 -- a text that was shown in the place of a run
 pub usage_shown : (text : List ℕ) (old new : Option Told) (reads reads' writes writes' : ℕ) → Shows text (Ok tt) old new

@@ -37,8 +37,8 @@ returns-in_default-clause-machine g c =
     c.usage.result (g.W.World.told c.args.world.now) (g.W.World.told c.usage.new.world) (g.W.World.read_faults c.args.world.now)
     (g.W.World.read_faults c.usage.new.world) (g.W.World.write_faults c.args.world.now) (g.W.World.write_faults c.usage.new.world)
     (λ t. elim c.in_default.branch [
-    in_default-via-then-words-lt1 w ↦ (let few : length c.args.words.now < 1 = grind arith in no_words USAGE.now (outside_of t None) c.args.words.now STEPS few)
-    | in_default-via-else-words-lt1+else-words-lt2 w ↦ (let many : 2 ≤ length c.args.words.now = grind arith in several_words USAGE.now (outside_of t None) c.args.words.now STEPS many)
+      | in_default-via-then-words-lt1 w ↦ (let few : length c.args.words.now < 1 = grind arith in no_words USAGE.now (outside_of t None) c.args.words.now STEPS few)
+      | in_default-via-else-words-lt1+else-words-lt2 w ↦ (let many : 2 ≤ length c.args.words.now = grind arith in several_words USAGE.now (outside_of t None) c.args.words.now STEPS many)
     ])
     c.usage.ensures.machine
 
