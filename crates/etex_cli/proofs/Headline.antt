@@ -1,11 +1,9 @@
 -- From a machine's run to the run on a first line.
-use Rattle.std.proofs.Common.{◌≡◌, ◌≢◌, ℕ, ◌-◌, ◌<◌, ◌≤◌, true, false, List, [], ◌∷◌, length, get_or, map, Global, Option, Some, None, Result, Ok, Err, ap, ◌∙◌, sym, refl, arith, subst}
-use Rattle.std.specs.Prelude.{Bool, nat_lt, ◌==◌, ◌++◌, String}
+use Rattle.std.proofs.Common.{◌≡◌, ◌≢◌, ℕ, ◌-◌, ◌<◌, ◌≤◌, true, false, List, [], ◌∷◌, length, get_or, map, Global, Option, Some, None, Ok, ap, ◌∙◌, sym, refl, arith, subst}
+use Rattle.std.specs.Prelude.{Bool, nat_lt, String}
 use Rattle.std.specs.String.{string_bytes}
 use Rattle.std.proofs.lemmas.Bool.{ltb-true, lt-ltb, eq-eqb}
-use Rattle.world.specs.declared.world.WorldError.{WorldError}
-use Rattle.world.specs.declared.world.WorldError.TheVariants.{Failed}
-use Rattle.world.specs.Calls.{WhereTold, Rises, Shows, ShowTells, Counts}
+use Rattle.world.specs.Calls.{WhereTold, Rises, Shows, ShowTells}
 use Rattle.world.specs.Told.{Told, last_count}
 use Rattle.stomach.specs.declared.ending.Exit.{Exit}
 use Rattle.stomach.specs.declared.ending.Exit.TheVariants.{Done, Trouble, Usage, Capacity, Spent, ReadFault, WriteFault, OutOfMemory}
@@ -16,7 +14,7 @@ use Rattle.stomach.specs.Faults.{ReadFaultWhere, WriteFaultWhere}
 use Rattle.stomach.specs.Machine.{beginning, turns, run, run-is, beginning-fetches, beginning-asks}
 use Rattle.stomach.specs.Outside.{Outside, outside_of, fails_at, HeardAll, IsCounted, SameFiles, counted_more}
 use Rattle.stomach.specs.Work.{asks}
-use Rattle.etex_cli.specs.Words.{line_of, called, run_on, IsRun, EndsAs, FailsAsLast}
+use Rattle.etex_cli.specs.Words.{line_of, usage_outcome, run_on, IsRun, EndsAs, FailsAsLast}
 
 -- a count that stays doesn't rise
 same_not_less : (a b : ℕ) → b ≡ a → false ≡ nat_lt a b
@@ -112,7 +110,7 @@ module _ (told new : Option Told) (reads reads' writes writes' : ℕ) (machine :
 
 -- a text that was shown in the place of a run
 pub usage_shown : (text : List ℕ) (old new : Option Told) (reads reads' writes writes' : ℕ) → Shows text (Ok tt) old new
-    → EndsAs (λ t. called text) Usage old new reads reads' writes writes'
+    → EndsAs (λ t. usage_outcome text) Usage old new reads reads' writes writes'
 usage_shown text old new reads reads' writes writes' h t u e f rs ws m =
     let shown = where_told (ShowTells text (Ok tt)) old new t u e f h in
     record {
@@ -124,7 +122,7 @@ usage_shown text old new reads reads' writes writes' h t u e f rs ws m =
 
 -- a text that could not be shown
 pub usage_failed : (text : List ℕ) (old new : Option Told) (reads reads' writes writes' : ℕ) → Rises old writes writes'
-    → EndsAs (λ t. called text) WriteFault old new reads reads' writes writes'
+    → EndsAs (λ t. usage_outcome text) WriteFault old new reads reads' writes writes'
 usage_failed text old new reads reads' writes writes' h t u e f rs ws m =
     let Q : Option Told → Type 0 = λ o. Rises o writes writes' in
     let rose : writes < writes' = subst Q e h in absurd (omega (arith, ws, rose))
@@ -163,12 +161,12 @@ one_word usage outside (first ∷ next ∷ rest) word line steps some few is e =
 
 -- no word, or several, are none
 pub no_words : (usage : List ℕ) (outside : Outside) (words : List (String Global)) (steps : ℕ) → length words < 1
-    → run_on usage outside (map string_bytes words) steps ≡ called usage
+    → run_on usage outside (map string_bytes words) steps ≡ usage_outcome usage
 no_words usage outside [] steps h = refl
 no_words usage outside (first ∷ rest) steps h = absurd (omega (arith, h))
 
 pub several_words : (usage : List ℕ) (outside : Outside) (words : List (String Global)) (steps : ℕ) → 2 ≤ length words
-    → run_on usage outside (map string_bytes words) steps ≡ called usage
+    → run_on usage outside (map string_bytes words) steps ≡ usage_outcome usage
 several_words usage outside [] steps h = absurd (omega (arith, h))
 several_words usage outside (first ∷ []) steps h = absurd (omega (arith, h))
 several_words usage outside (first ∷ next ∷ rest) steps h = refl

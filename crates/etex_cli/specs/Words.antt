@@ -1,11 +1,11 @@
 -- What the words of a command line ask for, and how a run on them ends.
-use Rattle.std.specs.Prelude.{◌≡◌, ◌≢◌, ℕ, ◌==◌, if◌then◌else◌, List, [], ◌∷◌, ◌++◌, Option, None, Some}
+use Rattle.std.specs.Prelude.{◌≡◌, ◌≢◌, ℕ, ◌==◌, if◌then◌else◌, List, [], ◌∷◌, ◌++◌, Option, Some}
 use Rattle.world.specs.Told.{Told}
 use Rattle.stomach.specs.declared.ending.Exit.{Exit}
 use Rattle.stomach.specs.declared.ending.Exit.TheVariants.{Usage, ReadFault, OutOfMemory}
 use Rattle.stomach.specs.Ending.{Outcome}
 use Rattle.stomach.specs.Machine.{run}
-use Rattle.stomach.specs.Outside.{Outside, outside_of, counted_more}
+use Rattle.stomach.specs.Outside.{Outside, counted_more}
 
 -- the first line: a word without the asterisk in front of it, byte 42
 abbrev pub line_of : List ℕ → List ℕ
@@ -13,15 +13,15 @@ line_of [] = []
 line_of (first ∷ rest) = (if first == 42 then rest else first ∷ rest)
 
 -- words that are no first line are answered by a text, without a step and without a fetch
-abbrev pub called : List ℕ → Outcome
-called text = record { exit = Usage; output = record { unflushed = text; terminal = 0; log = 0 }; steps = 0; fetches = 0 }
+abbrev pub usage_outcome : List ℕ → Outcome
+usage_outcome text = record { exit = Usage; output = record { unflushed = text; terminal = 0; log = 0 }; steps = 0; fetches = 0 }
 
 -- the run on the words of a command line: one word is the first line of a run of so many steps, and any other
 -- words are answered by how the program is called
 abbrev pub run_on : List ℕ → Outside → List (List ℕ) → ℕ → Outcome
-run_on usage outside [] steps = called usage
+run_on usage outside [] steps = usage_outcome usage
 run_on usage outside (word ∷ []) steps = run outside (line_of word) steps
-run_on usage outside (word ∷ next ∷ rest) steps = called usage
+run_on usage outside (word ∷ next ∷ rest) steps = usage_outcome usage
 
 -- a run ended as an outcome says: with its exit, its text stands on the terminal behind what stood there, so many
 -- more fetches were counted, and the files are as they were

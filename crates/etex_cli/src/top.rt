@@ -4,7 +4,7 @@ ghost use Rattle.std.specs.String.{string_bytes};
 ghost use Rattle.stomach.specs.Faults.{ReadFaultWhere, WriteFaultWhere};
 ghost use Rattle.stomach.specs.Machine.{run};
 ghost use Rattle.stomach.specs.Outside.{SameFiles, outside_of};
-ghost use Rattle.etex_cli.specs.Words.{line_of, called, run_on, EndsAs, FailsAsLast};
+ghost use Rattle.etex_cli.specs.Words.{line_of, usage_outcome, run_on, EndsAs, FailsAsLast};
 
 use std::alloc::{AllocError, Global};
 use stomach::{Exit, Machine, Start};
@@ -68,7 +68,7 @@ fn line_of(word: &[u8]) -> &[u8]
 
 /// Shows how the program is called.
 fn usage<W: World>(alloc: Global, world: &mut W) -> Exit
-    ensures machine { EndsAs (λ t. called USAGE.now) result
+    ensures machine { EndsAs (λ t. usage_outcome USAGE.now) result
         (W.told world.old) (W.told world.new) (W.read_faults world.old) (W.read_faults world.new)
         (W.write_faults world.old) (W.write_faults world.new) }
     ensures read_fault { ReadFaultWhere (W.told world.old) result (W.read_faults world.old) (W.read_faults world.new)

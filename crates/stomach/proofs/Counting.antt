@@ -1,5 +1,5 @@
 -- How the counts of a world, of its fetches and of its failed calls, follow a run.
-use Rattle.std.proofs.Common.{◌≡◌, ◌≢◌, ℕ, ◌+◌, ◌-◌, ◌<◌, ◌≤◌, zero, suc, true, false, List, Option, Some, None, Result, Ok, Err, Vec, ap, ◌∙◌, sym, refl, arith, subst}
+use Rattle.std.proofs.Common.{◌≡◌, ℕ, ◌+◌, ◌-◌, ◌≤◌, zero, suc, true, false, List, Option, Some, None, Result, Ok, Err, Vec, ap, ◌∙◌, sym, refl, arith, subst}
 use Rattle.std.specs.Prelude.{Bool, if◌then◌else◌, ◌==◌, IfOk}
 use Rattle.std.proofs.lemmas.Bool.{eqb-true}
 use Rattle.std.specs.declared.alloc.AllocError.{AllocError}
@@ -7,11 +7,10 @@ use Rattle.tokens.specs.declared.stop.Stop.{Stop}
 use Rattle.tokens.specs.declared.stop.Stop.TheVariants.{Trouble, Capacity, Spent, ReadFault, WriteFault, OutOfMemory}
 use Rattle.world.specs.declared.world.WorldError.{WorldError}
 use Rattle.world.specs.declared.world.WorldError.TheVariants.{Failed, OutOfMemory as NoMemory}
-use Rattle.world.specs.Calls.{WhereTold, FetchTells, Fetches, Rises, Counts, Shows, ShowTells}
+use Rattle.world.specs.Calls.{WhereTold, Fetches, Rises, Counts, Shows, ShowTells}
 use Rattle.world.specs.Told.{Told, counted, last_count}
 use Rattle.stomach.specs.declared.ending.Exit.{Exit}
-use Rattle.stomach.specs.declared.ending.Exit.TheVariants as exits
-use Rattle.stomach.specs.Ending.{exit_by, exit_of, exit_after, Whole}
+use Rattle.stomach.specs.Ending.{exit_by, exit_after, Whole}
 use Rattle.stomach.specs.Faults.{ReadFaultWhere, WriteFaultWhere}
 use Rattle.stomach.specs.Outside.{FaultsOnly, UnlessMemory, counted_more, IsCounted, IsQuiet}
 use Rattle.stomach.proofs.Faultless.{Answers}

@@ -1,5 +1,5 @@
 -- No turn that takes what comes next, and no reading of a name, ends a run for a failed read or write.
-use Rattle.std.proofs.Common.{◌≡◌, ℕ, ℤ, ◌+◌, ◌-◌, ◌*◌, ◌<◌, ◌≤◌, zero, suc, true, false, List, [], ◌∷◌, ◌++◌, Option, Some, None, Result, Ok, Err, sym, refl, length, arith, subst}
+use Rattle.std.proofs.Common.{ℕ, ℤ, ◌+◌, ◌-◌, ◌*◌, ◌<◌, ◌≤◌, zero, suc, true, false, List, [], ◌∷◌, ◌++◌, Option, Some, None, Result, Ok, Err, sym, length, arith, subst}
 use Rattle.std.specs.Prelude.{Bool, if◌then◌else◌, ◌==◌, ◌&&◌, nat_le, nat_lt}
 use Rattle.tokens.specs.Budget.{is_spent, after_step}
 use Rattle.tokens.specs.Categories.{category}
@@ -31,7 +31,7 @@ use Rattle.stomach.specs.Catcode.{exactly, exact, named_character, byte_of, or_w
 use Rattle.stomach.specs.Command.{command_of, is_relax, is_undefined}
 use Rattle.stomach.specs.Did.{Did, ◌>>=◌, lifted, lowered, DoesBy}
 use Rattle.stomach.specs.Input.{naming_line, named_file, with_file, file_eye, opened, found}
-use Rattle.stomach.specs.Message.{left_brace, balanced_text, message, Gathering, gathering, gathering_work, gather_of, with_gathered, gathered, without_meaning, text_token, text_turn, brace_token, brace_turn}
+use Rattle.stomach.specs.Message.{left_brace, balanced_text, message, Gathering, gathering, gathering_work, with_gathered, gathered, without_meaning, text_token, text_turn, brace_token, brace_turn}
 use Rattle.stomach.specs.Name.{Naming, naming, naming_work, is_empty, name_token, name_ended, name_turn, file_name}
 use Rattle.stomach.specs.Operand.{take, operand_token, operand_by, in_state, reading_of, put_back, undefined}
 use Rattle.stomach.specs.Pending.{Reading, event_of, by_token, begun_by, with_source}

@@ -4,7 +4,7 @@ use Rattle.std.specs.Prelude.{Bool, if◌then◌else◌, ◌==◌, nat_lt, OnOk,
 use Rattle.std.specs.FinMap as tree
 use Rattle.std.proofs.lemmas.Bool.{eqb-true, ltb-true, lt-ltb}
 use Rattle.tokens.specs.declared.stop.Stop.{Stop}
-use Rattle.tokens.specs.declared.stop.Stop.TheVariants.{Trouble, Capacity, Spent, ReadFault, WriteFault, OutOfMemory}
+use Rattle.tokens.specs.declared.stop.Stop.TheVariants.{ReadFault}
 use Rattle.world.specs.declared.world.WorldError.{WorldError}
 use Rattle.world.specs.declared.world.WorldError.TheVariants.{Failed}
 use Rattle.world.specs.Calls.{WhereTold, FetchTells, Fetches, Rises, Counts}

@@ -8,16 +8,16 @@ use Rattle.std.specs.declared.alloc.AllocError.{AllocError}
 use Rattle.tokens.specs.declared.stop.Stop.TheVariants.{Trouble, Capacity, Spent, ReadFault, WriteFault, OutOfMemory}
 use Rattle.world.specs.declared.world.WorldError.{WorldError}
 use Rattle.world.specs.declared.world.WorldError.TheVariants.{Failed, OutOfMemory as NoMemory}
-use Rattle.world.specs.Calls.{WhereTold, Shows, ShowTells}
+use Rattle.world.specs.Calls.{Shows, ShowTells}
 use Rattle.world.specs.Output.{Output}
-use Rattle.world.specs.Told.{Told, Files, last_count}
+use Rattle.world.specs.Told.{Told, Files}
 use Rattle.stomach.specs.declared.state.State.{State}
 use Rattle.stomach.specs.Again.{again, again-more, again-enough, again-ended}
 use Rattle.stomach.specs.Did.{Did, Does, Ended, Ended-by}
 use Rattle.stomach.specs.declared.ending.Exit.{Exit}
 use Rattle.stomach.specs.Ending.{exit_by, exit_of, output_by, ended_early, exit_after, Whole, IsOutcome, outcome_of}
 use Rattle.stomach.specs.Machine.{turns, turns-is}
-use Rattle.stomach.specs.Outside.{Outside, outside_of, fails_at, HeardAll, IsQuiet, SameOutside, SameFiles}
+use Rattle.stomach.specs.Outside.{Outside, outside_of, fails_at, HeardAll, IsQuiet, SameFiles}
 use Rattle.stomach.specs.Turn.{turn}
 use Rattle.stomach.specs.Work.{work}
 use Rattle.stomach.proofs.Hearing.{same_not_less}

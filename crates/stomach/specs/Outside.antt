@@ -1,5 +1,5 @@
 -- What a run finds outside: the files, and which of its fetches fails.
-use Rattle.std.specs.Prelude.{◌≡◌, ◌≢◌, ℕ, ◌-◌, ◌<◌, ◌≤◌, Bool, false, ◌==◌, nat_lt, Option, None, Some, List, Result, Ok, Err}
+use Rattle.std.specs.Prelude.{◌≡◌, ◌≢◌, ℕ, ◌-◌, ◌<◌, Bool, false, ◌==◌, nat_lt, Option, None, Some, List, Result, Ok, Err}
 use Rattle.std.proofs.Common.{zero, suc}
 use Rattle.std.specs.FinMap as tree
 use Rattle.world.specs.Calls.{WhereTold, Rises}

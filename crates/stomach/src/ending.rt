@@ -33,8 +33,7 @@ impl State {
     /// Shows the end of a run at `\end`.
     pub fn end_well(&mut self) -> Result<(), AllocError>
         ensures ok { OnOk result (self.new.printer ≡ ended_well self.old) }
-        ensures budget { self.new.budget ≡ self.old.budget }
-        ensures fetches { self.new.fetches ≡ self.old.fetches }
+        ensures rest { self.new ≡ record self.old { printer = self.new.printer } }
     {
         self.pending.close_files(&mut self.printer)?;
         report::show_no_pages(&mut self.printer)
@@ -43,8 +42,7 @@ impl State {
     /// Shows the early end of a run. Where memory ran out, it shows nothing, and is refused.
     pub fn end_early(&mut self, alloc: Global, stop: &Stop) -> Result<(), AllocError>
         ensures ok { OnOk result (self.new.printer ≡ ended_early stop.now self.old) }
-        ensures budget { self.new.budget ≡ self.old.budget }
-        ensures fetches { self.new.fetches ≡ self.old.fetches }
+        ensures rest { self.new ≡ record self.old { printer = self.new.printer } }
     {
         if let Stop::OutOfMemory = stop {
             return Err(AllocError);

@@ -1,10 +1,10 @@
-use Rattle.std.proofs.Common.{◌∙◌, ◌≡◌, ◌<◌, ◌≤◌, arith, length, ℕ, None, Option, map}
+use Rattle.std.proofs.Common.{◌∙◌, ◌<◌, ◌≤◌, arith, length, None, map}
 use Rattle.std.specs.String.{string_bytes}
 use Rattle.world.specs.Told.{Told}
 use Rattle.stomach.specs.Machine.{run}
 use Rattle.stomach.specs.Outside.{outside_of}
 use Rattle.etex_cli.specs.declared.top.TheConstants.{STEPS, USAGE}
-use Rattle.etex_cli.specs.Words.{line_of, called, run_on}
+use Rattle.etex_cli.specs.Words.{line_of, usage_outcome, run_on}
 use Rattle.etex_cli.proofs.Headline.{ends_by, fails_by, no_failed_read, one_word, no_words, several_words}
 use Rattle.etex_cli.proofs.top.etex_main.Goals as goal
 use Rattle.etex_cli.proofs.top.etex_main.Goals.{in_default-via-then-words-lt1, in_default-via-else-words-lt1+else-words-lt2}
@@ -33,7 +33,7 @@ returns-in-len1-clause-failed_read g c =
 
 pub returns-in_default-clause-machine : goal.returns-in_default-clause-machine
 returns-in_default-clause-machine g c =
-    ends_by (λ (t : Told). called USAGE.now) (λ t. run_on USAGE.now (outside_of t None) (map string_bytes c.args.words.now) STEPS)
+    ends_by (λ (t : Told). usage_outcome USAGE.now) (λ t. run_on USAGE.now (outside_of t None) (map string_bytes c.args.words.now) STEPS)
     c.usage.result (g.W.World.told c.args.world.now) (g.W.World.told c.usage.new.world) (g.W.World.read_faults c.args.world.now)
     (g.W.World.read_faults c.usage.new.world) (g.W.World.write_faults c.args.world.now) (g.W.World.write_faults c.usage.new.world)
     (λ t. elim c.in_default.branch [

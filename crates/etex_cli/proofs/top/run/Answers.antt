@@ -1,5 +1,4 @@
 use Rattle.std.proofs.Common.{◌≡◌, ◌∙◌, ap, List, ℕ}
-use Rattle.stomach.specs.declared.state.State.{State}
 use Rattle.stomach.specs.Machine.{beginning}
 use Rattle.etex_cli.specs.declared.top.TheConstants.{STEPS}
 use Rattle.etex_cli.specs.Words.{line_of}

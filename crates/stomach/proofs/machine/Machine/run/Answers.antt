@@ -5,7 +5,7 @@ use Rattle.world.specs.Told.{Told}
 use Rattle.stomach.specs.declared.ending.Exit.{Exit}
 use Rattle.stomach.specs.declared.state.State.{State}
 use Rattle.stomach.specs.Did.{Does}
-use Rattle.stomach.specs.Ending.{Whole, IsOutcome, outcome_of, output_by}
+use Rattle.stomach.specs.Ending.{Whole, IsOutcome, outcome_of}
 use Rattle.stomach.specs.Faults.{ReadFaultWhere, WriteFaultWhere}
 use Rattle.stomach.specs.Machine.{turns}
 use Rattle.stomach.specs.Outside.{Outside, outside_of, FaultsOnly, IsCounted}

@@ -1,4 +1,4 @@
-use Rattle.std.proofs.Common.{◌≡◌, ◌∙◌, ◌<◌, ℕ, sym, ap, arith, Ok, Err}
+use Rattle.std.proofs.Common.{◌∙◌, ◌<◌, arith, Ok, Err}
 use Rattle.world.specs.Told.{last_count}
 use Rattle.stomach.specs.Outside.{outside_of, IsCounted}
 use Rattle.stomach.proofs.Counting.{counted_twice, faults_from, unless_memory-map}
