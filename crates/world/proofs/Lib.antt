@@ -1,3 +1,6 @@
+pub mod Ascii
 pub mod Columns
 pub mod Kept
 pub mod LaidOut
+pub mod Portions
+pub mod Turns

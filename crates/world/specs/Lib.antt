@@ -5,3 +5,6 @@ pub mod Printed
 pub mod Output
 pub mod Memory
 pub mod Lines
+pub mod Refusal
+pub mod InTurn
+pub mod Asked

@@ -1,23 +1,22 @@
 //! The world of a real run: the files of the current folder, and standard output as the terminal.
-ghost use Rattle.std.specs.Prelude.{◌≡◌, ℕ, None};
-ghost use Rattle.world.specs.Calls.{Counts};
+ghost use Rattle.std.specs.Prelude.{◌≡◌, ℕ, None, Ok, Result, MatchResult};
+ghost use Rattle.std.specs.declared.io.Error.{Error};
+ghost use Rattle.world.specs.Asked.{to_read, to_create, to_append, done_by, FetchedBy, AppendedBy};
+ghost use Rattle.world.specs.Calls.{Fetches, Creates, Appends, Shows, Counts};
+ghost use Rattle.world.specs.Name.{IsGoodName};
 
+use crate::disk::Disk;
+use crate::whole::{read_to_end, refusal, write_all};
 use crate::world::{World, WorldError};
 use std::alloc::Global;
 use std::fs::OpenOptions;
-use std::io::{Error, ErrorKind, Read, Write};
-use std::rt::{Files, Runtime};
-use std::{fs, str};
-
-/// How often a fetch reads before it gives up.
-const READ_TURNS: u64 = 1 << 40;
-
-/// How many bytes a fetch reads at a time.
-const CHUNK: usize = 8192;
+use std::io::ErrorKind;
+use std::rt::Runtime;
+use std::str;
 
 /// Files under the current folder and standard output. It tells nothing of them, since no contract
-/// can say what a disk holds. Its two counters stay at their last value, where Failed may come
-/// without a rise.
+/// can say what a disk holds; each call says what it asked of the system, and what it made of the
+/// answers. Its two counters stay at their last value, where Failed may come without a rise.
 #[derive(Drop)]
 pub struct DirWorld<R: Runtime> {
     rt: R,
@@ -40,7 +39,7 @@ impl<R: Runtime> DirWorld<R> {
     }
 }
 
-impl<R: Runtime> World for DirWorld<R> {
+impl<R: Disk> World for DirWorld<R> {
     ghost told = { λ _. None };
 
     ghost read_faults = { λ w. w.read_faults };
@@ -48,23 +47,46 @@ impl<R: Runtime> World for DirWorld<R> {
     ghost write_faults = { λ w. w.write_faults };
 
     /// A file that isn't there, or whose path leads through something that is no folder, is absent.
-    fn fetch(&mut self, alloc: Global, name: &[u8]) -> Result<Option<Vec<u8>>, WorldError> {
+    fn fetch(&mut self, alloc: Global, name: &[u8]) -> Result<Option<Vec<u8>>, WorldError>
+        requires good { IsGoodName name.now }
+        ensures answer { Fetches name.now result None None }
+        ensures read_fault { Counts None result self.old.read_faults self.new.read_faults }
+        ensures write_fault { self.new.write_faults ≡ self.old.write_faults }
+        ensures asked { (answer : Result R.File Error) × R.opens self.old.rt to_read name.now answer × FetchedBy R.reads answer result }
+    {
         let read = read_file(&self.rt, alloc, name);
         count_fault(&mut self.read_faults, read)
     }
 
-    fn create(&mut self, name: &[u8]) -> Result<(), WorldError> {
+    fn create(&mut self, name: &[u8]) -> Result<(), WorldError>
+        requires good { IsGoodName name.now }
+        ensures answer { Creates name.now result None None }
+        ensures read_fault { self.new.read_faults ≡ self.old.read_faults }
+        ensures write_fault { Counts None result self.old.write_faults self.new.write_faults }
+        ensures asked { (answer : Result R.File Error) × R.opens self.old.rt to_create name.now answer × (result ≡ done_by answer) }
+    {
         let created = create_file(&self.rt, name);
         count_fault(&mut self.write_faults, created)
     }
 
-    fn append(&mut self, name: &[u8], bytes: &[u8]) -> Result<(), WorldError> {
+    fn append(&mut self, name: &[u8], bytes: &[u8]) -> Result<(), WorldError>
+        requires good { IsGoodName name.now }
+        ensures answer { Appends name.now bytes.now result None None }
+        ensures read_fault { self.new.read_faults ≡ self.old.read_faults }
+        ensures write_fault { Counts None result self.old.write_faults self.new.write_faults }
+        ensures asked { (answer : Result R.File Error) × R.opens self.old.rt to_append name.now answer × AppendedBy R.writes answer bytes.now result }
+    {
         let added = append_file(&self.rt, name, bytes);
         count_fault(&mut self.write_faults, added)
     }
 
-    fn show(&mut self, bytes: &[u8]) -> Result<(), WorldError> {
-        let shown = self.rt.write_all(bytes).map_err(refusal);
+    fn show(&mut self, bytes: &[u8]) -> Result<(), WorldError>
+        ensures answer { Shows bytes.now result None None }
+        ensures read_fault { self.new.read_faults ≡ self.old.read_faults }
+        ensures write_fault { Counts None result self.old.write_faults self.new.write_faults }
+        ensures asked { (answer : Result (Unit {0}) Error) × R.prints self.old.rt bytes.now answer × (result ≡ done_by answer) }
+    {
+        let shown = show_bytes(&self.rt, bytes);
         count_fault(&mut self.write_faults, shown)
     }
 }
@@ -80,21 +102,21 @@ fn count_fault<T>(faults: &mut u64, answer: Result<T, WorldError>) -> Result<T, 
     answer
 }
 
-fn refusal(error: Error) -> WorldError {
-    match error.kind() {
-        ErrorKind::OutOfMemory => WorldError::OutOfMemory,
-        _ => WorldError::Failed,
-    }
-}
-
-/// A name as the path of a file. Good names are ASCII, so that this doesn't fail for them.
-fn path(name: &[u8]) -> Result<&str, WorldError> {
+/// A good name as the path of a file.
+#[tactic(auto, using(crate::proofs::Ascii::good_name_is_text))]
+fn path(name: &[u8]) -> Result<&str, WorldError>
+    requires good { IsGoodName name.now }
+    ensures { MatchResult result (λ path. path.now ≡ name.now) (λ _. ⊥) }
+{
     str::from_utf8(name).map_err(|_| WorldError::Failed)
 }
 
-fn read_file<R: Files>(rt: &R, alloc: Global, name: &[u8]) -> Result<Option<Vec<u8>>, WorldError> {
-    match fs::open(rt, path(name)?) {
-        Ok(mut file) => Ok(Some(read_to_end(alloc, &mut file)?)),
+fn read_file<R: Disk>(rt: &R, alloc: Global, name: &[u8]) -> Result<Option<Vec<u8>>, WorldError>
+    requires good { IsGoodName name.now }
+    ensures asked { (answer : Result R.File Error) × R.opens rt.now to_read name.now answer × FetchedBy R.reads answer result }
+{
+    match rt.open_at(OpenOptions::new().read(true), path(name)?) {
+        Ok(mut file) => Ok(Some(read_to_end(rt, alloc, &mut file)?)),
         Err(error) => match error.kind() {
             ErrorKind::NotFound | ErrorKind::NotADirectory => Ok(None),
             _ => Err(refusal(error)),
@@ -102,51 +124,34 @@ fn read_file<R: Files>(rt: &R, alloc: Global, name: &[u8]) -> Result<Option<Vec<
     }
 }
 
-fn read_to_end<F: Read>(alloc: Global, file: &mut F) -> Result<Vec<u8>, WorldError> {
-    let mut bytes = Vec::new(alloc);
-    let mut chunk = [0u8; CHUNK];
-    for _ in 0..READ_TURNS {
-        match file.read(&mut chunk) {
-            Ok(0) => return Ok(bytes),
-            Ok(count) => bytes.extend_from_slice(&chunk[..count])?,
-            Err(error) => match error.kind() {
-                ErrorKind::Interrupted => {}
-                _ => return Err(refusal(error)),
-            },
-        }
-    }
-    Err(WorldError::Failed)
-}
-
-fn create_file<R: Files>(rt: &R, name: &[u8]) -> Result<(), WorldError> {
-    match fs::create(rt, path(name)?) {
+fn create_file<R: Disk>(rt: &R, name: &[u8]) -> Result<(), WorldError>
+    requires good { IsGoodName name.now }
+    ensures asked { (answer : Result R.File Error) × R.opens rt.now to_create name.now answer × (result ≡ done_by answer) }
+{
+    match rt.open_at(
+        OpenOptions::new().write(true).create(true).truncate(true),
+        path(name)?,
+    ) {
         Ok(_file) => Ok(()),
         Err(error) => Err(refusal(error)),
     }
 }
 
-fn append_file<R: Files>(rt: &R, name: &[u8], bytes: &[u8]) -> Result<(), WorldError> {
-    let path = path(name)?;
-    match OpenOptions::new().append(true).create(true).open(rt, path) {
-        Ok(mut file) => write_all(&mut file, bytes),
+fn append_file<R: Disk>(rt: &R, name: &[u8], bytes: &[u8]) -> Result<(), WorldError>
+    requires good { IsGoodName name.now }
+    ensures asked { (answer : Result R.File Error) × R.opens rt.now to_append name.now answer × AppendedBy R.writes answer bytes.now result }
+{
+    match rt.open_at(OpenOptions::new().append(true).create(true), path(name)?) {
+        Ok(mut file) => write_all(rt, &mut file, bytes),
         Err(error) => Err(refusal(error)),
     }
 }
 
-fn write_all<F: Write>(file: &mut F, bytes: &[u8]) -> Result<(), WorldError> {
-    let mut rest = bytes;
-    for _ in 0..u64::MAX {
-        if rest.is_empty() {
-            return Ok(());
-        }
-        match file.write(rest) {
-            Ok(0) => return Err(WorldError::Failed),
-            Ok(count) => rest = &rest[count..],
-            Err(error) => match error.kind() {
-                ErrorKind::Interrupted => {}
-                _ => return Err(refusal(error)),
-            },
-        }
+fn show_bytes<R: Disk>(rt: &R, bytes: &[u8]) -> Result<(), WorldError>
+    ensures asked { (answer : Result (Unit {0}) Error) × R.prints rt.now bytes.now answer × (result ≡ done_by answer) }
+{
+    match rt.print_bytes(bytes) {
+        Ok(()) => Ok(()),
+        Err(error) => Err(refusal(error)),
     }
-    Err(WorldError::Failed)
 }

@@ -2,6 +2,7 @@
 //! the terminal's text (tex.web parts 3, 5 and 29 in this program's form).
 #![tactic(auto)]
 
+mod disk;
 mod files;
 mod folder;
 mod honest;
@@ -11,6 +12,7 @@ mod strip;
 mod target;
 #[cfg(test)]
 mod tests;
+mod whole;
 mod world;
 
 pub use folder::DirWorld;
