@@ -1,0 +1,33 @@
+-- The tables are those of the start.
+use Rattle.std.proofs.Common.{ap, ◌∙◌, refl, length}
+use Rattle.save_groups.proofs.Starting.{at_start, length-start_numbers, length-start_codes, length-start_levels, length-initial_categories}
+use Rattle.save_groups.proofs.current.Current.new.Goals as goal
+
+pub invariant_of-result : goal.invariant_of-result
+invariant_of-result c = record {
+  parameters = ap length c.in_ok-start_numbers.ensures ∙ length-start_numbers;
+  categories = ap length c.initial.ensures ∙ length-initial_categories;
+  category_levels = ap length c.start_levels.ensures ∙ length-start_levels;
+  codes = ap length c.in_ok-start_codes.ensures ∙ length-start_codes;
+  no_tokens = c.empty.ensures;
+  undefined = refl;
+}
+
+pub returns : goal.returns
+returns c = at_start c.args.extended _ (record {
+  counts = c.new.ensures.items;
+  dimens = c.new-2.ensures.items;
+  skips = c.new-3.ensures.items;
+  muskips = c.new-4.ensures.items;
+  lists = c.new-5.ensures.items;
+  number_parameters = c.in_ok-start_numbers.ensures;
+  glue_parameters = c.new-6.ensures.items;
+  token_parameters = c.new-7.ensures.items;
+  categories = c.initial.ensures;
+  category_levels = c.start_levels.ensures;
+  codes = c.in_ok-start_codes.ensures;
+  names = c.in_ok-start_names.ensures;
+  actives = c.new-8.ensures.items;
+  font = refl;
+  families = c.new-9.ensures.items;
+})

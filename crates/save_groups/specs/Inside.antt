@@ -1,0 +1,33 @@
+-- What the tables of the environment that is in force hold, and how far they reach.
+use Rattle.std.specs.Prelude.{◌≡◌, ℕ, [], length}
+use Rattle.tokens.specs.declared.meaning.Meaning.TheVariants.{Undefined}
+use Rattle.save_groups.specs.declared.current.Current.TheInside.{Inside}
+use Rattle.save_groups.specs.Entries.{Entries}
+
+abbrev pub entries_of : Inside → Entries
+entries_of c = record {
+  counts = c.counts.items;
+  dimens = c.dimens.items;
+  skips = c.skips.items;
+  muskips = c.muskips.items;
+  lists = c.lists.items;
+  number_parameters = c.number_parameters.items;
+  glue_parameters = c.glue_parameters.items;
+  token_parameters = c.token_parameters.items;
+  categories = c.categories;
+  category_levels = c.category_levels;
+  codes = c.codes.items;
+  names = c.names.items;
+  actives = c.actives.items;
+  font = c.font;
+  families = c.families.items;
+}
+
+-- the parameters that are numbers, and the codes, are all there
+pub record AreFull (c : Inside) : Type 0 where
+  pub parameters : length c.number_parameters.items ≡ 111
+  pub categories : length c.categories ≡ 256
+  pub category_levels : length c.category_levels ≡ 256
+  pub codes : length c.codes.items ≡ 1280
+  pub no_tokens : c.no_tokens ≡ []
+  pub undefined : c.undefined ≡ Undefined

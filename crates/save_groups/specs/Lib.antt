@@ -1,0 +1,10 @@
+pub mod Inside
+pub mod Keys
+pub mod Values
+pub mod StartValues
+pub mod StartTables
+pub mod Environments
+pub mod Assignment
+pub mod Entries
+pub mod Standing
+pub mod Table

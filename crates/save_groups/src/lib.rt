@@ -1,0 +1,21 @@
+//! Groups and the save stack: one environment and a list of old values, which stand for environments that are
+//! copied whole at the beginning of each group (The TeXbook, chapter 24; `tex.web`, part 19).
+#![tactic(auto)]
+
+pub use entry::Entry;
+pub use group::Left;
+pub use key::{Key, Scope};
+pub use save::Save;
+pub use value::Value;
+
+mod current;
+mod entry;
+mod group;
+mod initial;
+mod key;
+mod laws;
+pub mod parameters;
+mod save;
+mod start;
+mod table;
+mod value;
