@@ -1,6 +1,6 @@
 -- Environments, copied whole at the beginning of each group (The TeXbook, chapter 24, on grouping): the one that
 -- is in force, and for each open group the one that stood outside it.
-use Rattle.std.specs.Prelude.{◌≡◌, ℕ, ◌+◌, ◌==◌, Bool, not, List, [], ◌∷◌, ◌++◌, map, length, filter, if◌then◌else◌}
+use Rattle.std.specs.Prelude.{◌≡◌, ℕ, ◌+◌, ◌==◌, Bool, not, List, [], ◌∷◌, ◌++◌, map, length, filter, Option, Some, None, if◌then◌else◌}
 use Rattle.tokens.specs.declared.token.Token.{Token}
 use Rattle.save_groups.specs.declared.key.Key.{Key}
 use Rattle.save_groups.specs.declared.value.Value.{Value}
@@ -57,6 +57,14 @@ entered kind line c =
 -- the saves that were not made in a group
 abbrev pub saves_outside : ℕ → List Save → List Save
 saves_outside group saves = filter (λ save. not (save.group == group)) saves
+
+-- the innermost group
+abbrev pub first_of : List OpenGroup → Option OpenGroup
+first_of [] = None
+first_of (group ∷ groups) = Some group
+
+abbrev pub innermost : Copies → Option OpenGroup
+innermost c = first_of c.groups
 
 -- the innermost group ends: the environment outside it is in force again, and its saves are dropped
 abbrev pub left_by : List OpenGroup → Copies → Copies

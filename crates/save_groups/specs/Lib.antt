@@ -1,4 +1,4 @@
-pub mod Inside
+pub mod InsideCurrent
 pub mod Keys
 pub mod Values
 pub mod StartValues
@@ -8,3 +8,4 @@ pub mod Assignment
 pub mod Entries
 pub mod Standing
 pub mod Table
+pub mod Kept

@@ -1,7 +1,7 @@
 -- What stands for the environments that are copied whole: the environment that is in force, and the saves. The
 -- environment outside a group is found by undoing the saves from the newest to the first of that group (tex.web
 -- 281, where a group ends).
-use Rattle.std.specs.Prelude.{◌≡◌, ℕ, ◌==◌, Bool, List, [], ◌∷◌, map, drop, if◌then◌else◌}
+use Rattle.std.specs.Prelude.{◌≡◌, ℕ, ◌==◌, Bool, List, [], ◌∷◌, take, drop, if◌then◌else◌}
 use Rattle.tokens.specs.declared.token.Token.{Token}
 use Rattle.save_groups.specs.declared.save.Save.{Save}
 use Rattle.save_groups.specs.Environments.{Environment, updated, OpenGroup, Copies}
@@ -32,15 +32,18 @@ abbrev pub undone : List Save → Environment → Environment
 undone [] env = env
 undone (save ∷ newer) env = restored save (undone newer env)
 
-abbrev pub open_group : List Save → Environment → Mark → OpenGroup
-open_group saves env mark =
+-- the open groups: outside the innermost one its saves are undone, and the saves before those are of the others
+abbrev pub groups_of : List Mark → List Save → Environment → List OpenGroup
+groups_of [] saves env = []
+groups_of (mark ∷ outer) saves env =
     record { outside = undone (drop mark.first saves) env; kind = mark.kind; line = mark.line; after = mark.after }
+    ∷ groups_of outer (take mark.first saves) (undone (drop mark.first saves) env)
 
 -- the environments that a store stands for
 unfoldable pub copies_of : Store → Copies
 copies_of s = record {
   extended = s.extended;
   last = at s.entries;
-  groups = map (open_group s.saves (at s.entries)) s.groups;
+  groups = groups_of s.groups s.saves (at s.entries);
   saves = s.saves;
 }

@@ -51,7 +51,7 @@ impl Model for Current {
 
     ghost Value = { Entries };
 
-    ghost use Rattle.save_groups.specs.Inside.{entries_of, AreFull};
+    ghost use Rattle.save_groups.specs.InsideCurrent.{entries_of, AreFull};
 
     ghost view = { entries_of };
 

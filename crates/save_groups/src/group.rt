@@ -3,6 +3,16 @@
 use sqlite_items::Items;
 use tokens::Token;
 
+/// A group that is open.
+#[derive(Drop)]
+pub struct Group {
+    pub kind: u8,
+    pub line: u32,
+    pub after: Vec<Token>,
+    /// How many saves were made before it began.
+    pub first: usize,
+}
+
 /// A group that was left.
 #[derive(Debug, Drop)]
 pub struct Left {

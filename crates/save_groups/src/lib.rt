@@ -3,6 +3,7 @@
 #![tactic(auto)]
 
 pub use entry::Entry;
+pub use env::Env;
 pub use group::Left;
 pub use key::{Key, Scope};
 pub use save::Save;
@@ -10,6 +11,7 @@ pub use value::Value;
 
 mod current;
 mod entry;
+mod env;
 mod group;
 mod initial;
 mod key;
