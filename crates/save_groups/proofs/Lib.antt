@@ -5,3 +5,5 @@ pub mod KeyLemmas
 pub mod Undoing
 pub mod Keeping
 pub mod Stores
+pub mod Marks
+pub mod Steps

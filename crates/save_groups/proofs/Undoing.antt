@@ -22,7 +22,7 @@ abbrev saved_entry : Save → Entry Value
 saved_entry save = record { value = save.value; level = save.level }
 
 -- one save undone, by whether the entry was assigned globally since
-restored-stays : (save : Save) (env : Environment) → (env save.key).level ≡ 1 → restored save env ≡ env
+pub restored-stays : (save : Save) (env : Environment) → (env save.key).level ≡ 1 → restored save env ≡ env
 restored-stays save env h = ap (λ b. if b then env else updated save.key (saved_entry save) env) (eq-eqb _ _ h)
 
 restored-puts : (save : Save) (env : Environment) → (env save.key).level ≢ 1 → restored save env ≡ updated save.key (saved_entry save) env

@@ -1,7 +1,8 @@
 -- What the store of environments keeps: each entry that belongs to an open group was saved in it, and the saves of
 -- a group stand together.
-use Rattle.std.specs.Prelude.{◌≡◌, ℕ, ◌+◌, ◌<◌, ◌≤◌, ◌==◌, Bool, ◌&&◌, true, List, [], ◌∷◌, length, take, drop, map, reverse, vec_len, vec_capacity, IsTrue}
+use Rattle.std.specs.Prelude.{◌≡◌, ℕ, ◌+◌, ◌<◌, ◌≤◌, ◌==◌, Bool, ◌&&◌, true, List, [], ◌∷◌, ◌++◌, length, take, drop, map, reverse, vec_len, vec_capacity, IsTrue}
 use Rattle.std.specs.List.{list_any, list_all}
+use Rattle.tokens.specs.declared.token.Token.{Token}
 use Rattle.save_groups.specs.declared.key.Key.{Key}
 use Rattle.save_groups.specs.declared.save.Save.{Save}
 use Rattle.save_groups.specs.declared.group.Group.{Group}
@@ -40,6 +41,11 @@ mark_of group = record { kind = group.kind; line = group.line; after = group.aft
 
 abbrev pub marks_of : List Group → List Mark
 marks_of groups = map mark_of (reverse groups)
+
+-- a token waits for the end of the innermost group
+abbrev pub waiting : Token → List Mark → List Mark
+waiting token [] = []
+waiting token (mark ∷ outer) = record mark { after = mark.after ++ token ∷ [] } ∷ outer
 
 abbrev pub store_of : Inside → Store
 store_of env = record {

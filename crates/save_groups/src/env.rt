@@ -2,15 +2,20 @@
 //! `tex.web`, part 19).
 #![tactic(auto, unfolding(crate::specs::Standing::copies_of))]
 
-ghost use Rattle.std.specs.Prelude.{◌≡◌, IsTrue, IsSome, IfOk, IfErr, OnOk, OnErr, Some, length, slice_get, ◌<◌, ◌≤◌};
-ghost use Rattle.std.specs.Option.{option_copied};
+ghost use Rattle.std.specs.Prelude.{◌≡◌, ℕ, pos, IsTrue, IsSome, IsErr, IfOk, IfErr, OnOk, OnErr, Some, length, vec_len, vec_capacity, take, drop, slice_get, ◌<◌, ◌≤◌, ◌↔◌};
+ghost use Rattle.std.specs.Option.{option_copied, option_map};
+ghost use Rattle.std.specs.List.{list_all};
+ghost use Rattle.tokens.specs.Categories.{category};
 ghost use Rattle.tokens.specs.declared.stop.Stop.TheVariants.{Capacity};
 ghost use Rattle.tokens.specs.declared.cap.Cap.TheVariants.{Groups};
 ghost use Rattle.save_groups.specs.Keys.{is_key, holds_number, holds_glue, holds_tokens, holds_meaning};
 ghost use Rattle.save_groups.specs.Values.{fits};
 ghost use Rattle.save_groups.specs.Environments.{beginning, entered, left, innermost, told_of, with_after, level_of, kind_of};
 ghost use Rattle.save_groups.specs.Assignment.{assigned};
-ghost use Rattle.save_groups.specs.Standing.{copies_of};
+ghost use Rattle.save_groups.specs.Standing.{copies_of, undone, restored};
+ghost use Rattle.save_groups.specs.Entries.{at, has_room};
+ghost use Rattle.save_groups.specs.Kept.{can_return, marks_of, waiting};
+ghost use Rattle.save_groups.specs.declared.key.Key.{Key};
 ghost use Rattle.save_groups.specs.declared.value.Value.TheVariants as kind;
 
 use crate::current::Current;
@@ -102,5 +107,133 @@ impl Env {
         ensures { ((copies_of self.now).last key).value ≡ kind.Meaning result.now }
     {
         self.current.meaning(key)
+    }
+
+    /// The categories of all bytes.
+    pub fn cats(&self) -> &CatTable
+        ensures { (byte : ℕ) → byte < 256 → ((copies_of self.now).last (Key.Code 0 byte)).value ≡ kind.Number (pos (category result.now byte)) }
+    {
+        self.current.cats()
+    }
+
+    /// How many environments there are: 1 outside all groups.
+    pub fn level(&self) -> u16
+        ensures { result ≡ level_of (copies_of self.now) }
+    {
+        self.groups.len() as u16 + 1
+    }
+
+    /// The kind of the innermost group, a number of `\currentgrouptype`, 0 outside all groups.
+    pub fn group_kind(&self) -> u8
+        ensures { result ≡ kind_of (copies_of self.now).groups }
+    {
+        match self.groups.last() {
+            Some(group) => group.kind,
+            None => 0,
+        }
+    }
+
+    /// How many saves there are.
+    pub fn saved(&self) -> u64
+        ensures { result ≡ length (copies_of self.now).saves }
+    {
+        self.saves.len() as u64
+    }
+
+    /// The save with exactly this many saves before it, the oldest first.
+    pub fn save(&self, n: u64) -> Option<&Save>
+        ensures { option_copied result ≡ slice_get (copies_of self.now).saves n }
+    {
+        self.saves.get(n as usize)
+    }
+
+    /// Begins a group of this kind at this line. It takes no memory.
+    pub fn enter(&mut self, kind: u8, line: u32) -> Result<(), Stop>
+        ensures full { IsErr result ↔ (255 ≤ length (copies_of self.old).groups) }
+        ensures stop { IfErr result (λ stop. stop ≡ Capacity Groups) }
+        ensures ok { OnOk result (copies_of self.new ≡ entered kind line (copies_of self.old)) }
+        ensures err { OnErr result (copies_of self.new ≡ copies_of self.old) }
+    {
+        if self.groups.len() >= MAX_GROUPS {
+            return Err(Stop::Capacity(Cap::Groups));
+        }
+        let group = Group {
+            kind,
+            line,
+            after: Vec::new(self.alloc),
+            first: self.saves.len(),
+        };
+        match self.groups.push(group) {
+            Ok(()) => Ok(()),
+            Err(_) => unreachable!(),
+        }
+    }
+
+    /// Ends the innermost group: what was assigned locally in it is undone. It takes no memory.
+    pub fn leave<L: Ledger>(&mut self, _steps: &mut Steps<L>) -> Left
+        requires { IsSome (innermost (copies_of self.old)) }
+        ensures left { copies_of self.new ≡ left (copies_of self.old) }
+        ensures told { option_map told_of (innermost (copies_of self.old)) ≡ Some result }
+        ensures steps { _steps.new ≡ _steps.old }
+    {
+        let Some(group) = self.groups.pop() else {
+            unreachable!()
+        };
+        undo(&mut self.current, &mut self.saves, group.first);
+        Left {
+            kind: group.kind,
+            line: group.line,
+            after: Items::from_vec(group.after),
+        }
+    }
+
+    /// Lets a token wait for the end of the innermost group.
+    pub fn after_group(&mut self, token: Token) -> Result<(), AllocError>
+        requires { IsSome (innermost (copies_of self.old)) }
+        ensures ok { OnOk result (copies_of self.new ≡ with_after token (copies_of self.old)) }
+        ensures err { OnErr result (copies_of self.new ≡ copies_of self.old) }
+    {
+        wait(&mut self.groups, token)
+    }
+}
+
+/// Lets a token wait for the end of the last group.
+fn wait(groups: &mut Vec<Group>, token: Token) -> Result<(), AllocError>
+    requires { 0 < vec_len groups.old }
+    ensures ok { OnOk result (marks_of groups.new.items ≡ waiting token (marks_of groups.old.items)) }
+    ensures err { OnErr result (marks_of groups.new.items ≡ marks_of groups.old.items) }
+    ensures len { vec_len groups.new ≡ vec_len groups.old }
+    ensures capacity { vec_capacity groups.new ≡ vec_capacity groups.old }
+{
+    let last = groups.len() - 1;
+    groups[last].after.push(token)?;
+    Ok(())
+}
+
+/// Undoes the saves behind the first ones, the newest first.
+fn undo(current: &mut Current, saves: &mut Vec<Save>, first: usize)
+    requires within { first ≤ length saves.old.items }
+    requires returns { IsTrue (list_all (can_return current.old) saves.old.items) }
+    ensures undone { at current.new ≡ undone (drop first saves.old.items) (at current.old) }
+    ensures rest { saves.new.items ≡ take first saves.old.items }
+    ensures returns { IsTrue (list_all (can_return current.new) saves.new.items) }
+{
+    'undoing: while saves.len() > first {
+        let Some(save) = saves.pop() else {
+            unreachable!()
+        };
+        put_back(current, save);
+    }
+}
+
+/// Undoes one save: what was assigned globally since stays.
+fn put_back(current: &mut Current, save: Save)
+    requires { IsTrue (can_return current.old save) }
+    ensures restored { (other : Key) → at current.new other ≡ restored save (at current.old) other }
+    ensures kept { (other : Key) → IsTrue (has_room current.old other) → IsTrue (has_room current.new other) }
+{
+    let Save { key, level, value, .. } = save;
+    if current.level(key) != 1 {
+        let _replaced = current.replace(key, Entry { value, level });
     }
 }
