@@ -39,8 +39,7 @@ kept-entered mark marks saves env first h =
     let all : take mark.first saves ≡ saves = ap (λ n. take n saves) first ∙ take-length saves in
     let P : List Save → Type 0 = λ xs. AreKept marks saves (undone xs env) in
     let Q : List Save → Type 0 = λ xs. AreKept marks xs (undone (drop mark.first saves) env) in
-    let R : List Save → Type 0 = λ xs. IsTrue (list_all (λ save. save.group == length marks + 1 + 1) xs) in
-    (
+    let R : List Save → Type 0 = λ xs. IsTrue (list_all (λ save. save.group == length marks + 1 + 1) xs) in (
       record {
         first = omega (arith, first);
         levels = λ key. omega (arith, kept-levels marks saves env h key);
@@ -55,17 +54,16 @@ pub kept-global : (marks : List Mark) (saves : List Save) (env : Environment) (k
 kept-global [] saves env key x one h =
     (h.0, λ other. changed_level (λ n. n ≡ 1) key x env other (λ same. one) (λ differ. h.1 other))
 kept-global (mark ∷ outer) saves env key x one h =
-    let P : Environment → Type 0 = λ e. AreKept outer (take mark.first saves) e in
-    (
+    let P : Environment → Type 0 = λ e. AreKept outer (take mark.first saves) e in (
       record {
         first = h.0.first;
         levels = λ other. changed_level (λ n. n ≤ length outer + 1 + 1) key x env other (λ same. omega (arith, one)) (λ differ. h.0.levels other);
         saved = λ other. changed_level (λ n. n ≡ length outer + 1 + 1 → IsTrue (is_saved other (drop mark.first saves))) key x env other
-        (λ same level. absurd (omega (arith, one, level))) (λ differ level. h.0.saved other level);
+            (λ same level. absurd (omega (arith, one, level))) (λ differ level. h.0.saved other level);
         numbered = h.0.numbered;
       },
       subst P (sym (undone-global (drop mark.first saves) key x env one))
-      (kept-global outer (take mark.first saves) (undone (drop mark.first saves) env) key x one h.1),
+          (kept-global outer (take mark.first saves) (undone (drop mark.first saves) env) key x one h.1),
     )
 
 -- a local assignment outside all groups
@@ -77,14 +75,13 @@ pub kept-again : (mark : Mark) (outer : List Mark) (saves : List Save) (env : En
     → AreKept (mark ∷ outer) saves env → AreKept (mark ∷ outer) saves (updated key x env)
 kept-again mark outer saves env key x new old h =
     let P : Environment → Type 0 = λ e. AreKept outer (take mark.first saves) e in
-    let there : IsTrue (is_saved key (drop mark.first saves)) = h.0.saved key old in
-    (
+    let there : IsTrue (is_saved key (drop mark.first saves)) = h.0.saved key old in (
       record {
         first = h.0.first;
         levels = λ other. changed_level (λ n. n ≤ length outer + 1 + 1) key x env other (λ same. omega (arith, new)) (λ differ. h.0.levels other);
         saved = λ other. changed_level (λ n. n ≡ length outer + 1 + 1 → IsTrue (is_saved other (drop mark.first saves))) key x env other
-        (λ same level. (let Q : Key → Type 0 = λ k. IsTrue (is_saved k (drop mark.first saves)) in subst Q (same_key-equal key other same) there))
-        (λ differ level. h.0.saved other level);
+            (λ same level. (let Q : Key → Type 0 = λ k. IsTrue (is_saved k (drop mark.first saves)) in subst Q (same_key-equal key other same) there))
+            (λ differ level. h.0.saved other level);
         numbered = h.0.numbered;
       },
       subst P (sym (undone-saved (drop mark.first saves) key x env there (λ e. absurd (omega (arith, e, new))) (λ e. absurd (omega (arith, e, old))))) h.1,
@@ -118,19 +115,18 @@ kept-saving mark outer saves env save x new number made h =
     let P : Environment → Type 0 = λ e. AreKept outer (take mark.first saves) e in
     let Q : List Save → Type 0 = λ xs. AreKept outer xs (undone (drop mark.first (saves ++ save ∷ [])) (updated save.key x env)) in
     let more : (key : Key) (b : Bool) → is_saved key (drop mark.first saves ++ save ∷ []) ≡ b → is_saved key (drop mark.first (saves ++ save ∷ [])) ≡ b =
-    (λ key b e. ap (is_saved key) split ∙ e) in
-    (
+    (λ key b e. ap (is_saved key) split ∙ e) in (
       record {
         first = omega (arith, length-append-one saves save, within);
         levels = λ other. changed_level (λ n. n ≤ length outer + 1 + 1) save.key x env other (λ same. omega (arith, new)) (λ differ. h.0.levels other);
         saved = λ other. changed_level (λ n. n ≡ length outer + 1 + 1 → IsTrue (is_saved other (drop mark.first (saves ++ save ∷ [])))) save.key x env other
-        (λ same level. more other true (list_any-append (λ s. same_key s.key other) (drop mark.first saves) (save ∷ [])
-        ∙ or_right (is_saved other (drop mark.first saves)) _ (or_left (same_key save.key other) false same)))
-        (λ differ level. more other true (list_any-append (λ s. same_key s.key other) (drop mark.first saves) (save ∷ [])
-        ∙ or_left (is_saved other (drop mark.first saves)) _ (h.0.saved other level)));
+            (λ same level. more other true (list_any-append (λ s. same_key s.key other) (drop mark.first saves) (save ∷ [])
+            ∙ or_right (is_saved other (drop mark.first saves)) _ (or_left (same_key save.key other) false same)))
+            (λ differ level. more other true (list_any-append (λ s. same_key s.key other) (drop mark.first saves) (save ∷ [])
+            ∙ or_left (is_saved other (drop mark.first saves)) _ (h.0.saved other level)));
         numbered = ap (list_all (λ s. s.group == length outer + 1 + 1)) split
-        ∙ list_all-append (λ s. s.group == length outer + 1 + 1) (drop mark.first saves) (save ∷ [])
-        ∙ and_from _ _ h.0.numbered (and_from _ _ (eq-eqb _ _ number) refl);
+            ∙ list_all-append (λ s. s.group == length outer + 1 + 1) (drop mark.first saves) (save ∷ [])
+            ∙ and_from _ _ h.0.numbered (and_from _ _ (eq-eqb _ _ number) refl);
       },
       subst Q (sym front) (subst P (sym (undone-more saves mark.first save x env within made (λ e. absurd (omega (arith, e, new))))) h.1),
     )

@@ -18,15 +18,15 @@ pub marks-push : (groups : List Group) (group : Group) → marks_of (groups ++ g
 marks-push groups group = ap (map mark_of) (reverse-append groups (group ∷ []))
 
 -- as many
-length-reverse-marks : (groups : List Group) → length (marks_of groups) ≡ length groups
-length-reverse-marks groups = search (rules, length-map, length-reverse)
+pub length-marks_of : (groups : List Group) → length (marks_of groups) ≡ length groups
+length-marks_of groups = search (rules, length-map, length-reverse)
 
 -- how many groups a store has
 pub length-copies : (env : Inside) (s : Store) → store_of env ≡ s → length (copies_of s).groups ≡ length env.groups.items
 unfolding copies_of
 length-copies env s e =
     let P : Store → Type 0 = λ t. length (copies_of t).groups ≡ length env.groups.items in
-    subst P e (length-groups_of (marks_of env.groups.items) env.saves.items _ ∙ length-reverse-marks env.groups.items)
+    subst P e (length-groups_of (marks_of env.groups.items) env.saves.items _ ∙ length-marks_of env.groups.items)
 
 -- the last group, which is the innermost
 pub set_last : (groups : List Group) (group : Group) (n : ℕ) → length groups ≡ suc n → slice_set groups n group ≡ take n groups ++ group ∷ []

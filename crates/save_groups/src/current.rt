@@ -12,9 +12,8 @@ use crate::entry::Entry;
 use crate::initial::Initial;
 use crate::key::Key;
 use crate::parameters::{EVERY_EOF, FIRST_EXTENDED, FIRST_GLUE, FIRST_TOKENS, PARAMETER_COUNT};
-use crate::start;
-use crate::table;
 use crate::value::Value;
+use crate::{start, table};
 use scaled::Glue;
 use std::alloc::{AllocError, Global};
 use std::marker::Model;
@@ -127,13 +126,23 @@ impl Current {
         ensures { (at self.now key).value ≡ kind.Number result }
     {
         match key {
-            Key::Register { kind: RegKind::Count, number } => *table::value_at(&self.counts, number as usize, &0),
-            Key::Register { kind: RegKind::Dimen, number } => *table::value_at(&self.dimens, number as usize, &0),
+            Key::Register {
+                kind: RegKind::Count,
+                number,
+            } => *table::value_at(&self.counts, number as usize, &0),
+            Key::Register {
+                kind: RegKind::Dimen,
+                number,
+            } => *table::value_at(&self.dimens, number as usize, &0),
             Key::Parameter(place) => self.number_parameters[place as usize].value,
             Key::Code { table: 0, byte } => i32::from(self.categories.get(byte)),
             Key::Code { table, byte } => self.codes[code_place(table, byte)].value,
             Key::CurrentFont => self.font.value,
-            Key::Family { size, number } => *table::value_at(&self.families, family_place(size, number), &0),
+            Key::Family { size, number } => *table::value_at(
+                &self.families,
+                family_place(size, number),
+                &0,
+            ),
             _ => unreachable!(),
         }
     }
@@ -144,9 +153,19 @@ impl Current {
         ensures { (at self.now key).value ≡ kind.Glue result }
     {
         match key {
-            Key::Register { kind: RegKind::Skip, number } => *table::value_at(&self.skips, number as usize, &Glue::initial()),
-            Key::Register { kind: RegKind::Muskip, number } => *table::value_at(&self.muskips, number as usize, &Glue::initial()),
-            Key::Parameter(place) => *table::value_at(&self.glue_parameters, place as usize, &Glue::initial()),
+            Key::Register {
+                kind: RegKind::Skip,
+                number,
+            } => *table::value_at(&self.skips, number as usize, &Glue::initial()),
+            Key::Register {
+                kind: RegKind::Muskip,
+                number,
+            } => *table::value_at(&self.muskips, number as usize, &Glue::initial()),
+            Key::Parameter(place) => *table::value_at(
+                &self.glue_parameters,
+                place as usize,
+                &Glue::initial(),
+            ),
             _ => unreachable!(),
         }
     }
@@ -157,8 +176,15 @@ impl Current {
         ensures { (at self.now key).value ≡ kind.Tokens result.now }
     {
         match key {
-            Key::Register { kind: RegKind::Toks, number } => table::value_at(&self.lists, number as usize, &self.no_tokens),
-            Key::Parameter(place) => table::value_at(&self.token_parameters, place as usize, &self.no_tokens),
+            Key::Register {
+                kind: RegKind::Toks,
+                number,
+            } => table::value_at(&self.lists, number as usize, &self.no_tokens),
+            Key::Parameter(place) => table::value_at(
+                &self.token_parameters,
+                place as usize,
+                &self.no_tokens,
+            ),
             _ => unreachable!(),
         }
     }
@@ -188,7 +214,10 @@ impl Current {
             Key::Name(id) => table::level_at(&self.names, id.0 as usize),
             Key::Active(byte) => table::level_at(&self.actives, byte as usize),
             Key::CurrentFont => self.font.level,
-            Key::Family { size, number } => table::level_at(&self.families, family_place(size, number)),
+            Key::Family { size, number } => table::level_at(
+                &self.families,
+                family_place(size, number),
+            ),
         }
     }
 
@@ -239,12 +268,30 @@ impl Current {
         ensures kept { (other : Key) → IsTrue (has_room self.old other) → IsTrue (has_room self.new other) }
     {
         match key {
-            Key::Register { kind: RegKind::Count, number } => table::reserve(&mut self.counts, number as usize),
-            Key::Register { kind: RegKind::Dimen, number } => table::reserve(&mut self.dimens, number as usize),
-            Key::Register { kind: RegKind::Skip, number } => table::reserve(&mut self.skips, number as usize),
-            Key::Register { kind: RegKind::Muskip, number } => table::reserve(&mut self.muskips, number as usize),
-            Key::Register { kind: RegKind::Toks, number } => table::reserve(&mut self.lists, number as usize),
-            Key::Register { kind: RegKind::Box, .. } => unreachable!(),
+            Key::Register {
+                kind: RegKind::Count,
+                number,
+            } => table::reserve(&mut self.counts, number as usize),
+            Key::Register {
+                kind: RegKind::Dimen,
+                number,
+            } => table::reserve(&mut self.dimens, number as usize),
+            Key::Register {
+                kind: RegKind::Skip,
+                number,
+            } => table::reserve(&mut self.skips, number as usize),
+            Key::Register {
+                kind: RegKind::Muskip,
+                number,
+            } => table::reserve(&mut self.muskips, number as usize),
+            Key::Register {
+                kind: RegKind::Toks,
+                number,
+            } => table::reserve(&mut self.lists, number as usize),
+            Key::Register {
+                kind: RegKind::Box,
+                ..
+            } => unreachable!(),
             Key::Parameter(place) => self.reserve_parameter(place),
             Key::Code { .. } => {
                 let _codes = &self.codes;
@@ -253,7 +300,10 @@ impl Current {
             Key::CurrentFont => Ok(()),
             Key::Name(id) => table::reserve(&mut self.names, id.0 as usize),
             Key::Active(byte) => table::reserve(&mut self.actives, byte as usize),
-            Key::Family { size, number } => table::reserve(&mut self.families, family_place(size, number)),
+            Key::Family { size, number } => table::reserve(
+                &mut self.families,
+                family_place(size, number),
+            ),
         }
     }
 
@@ -278,16 +328,35 @@ impl Current {
         requires kind { IsTrue (holds_number key) }
         requires range { IsTrue (is_number_of key entry.value) }
         ensures old { as_value kind.Number result ≡ at self.old key }
+        ensures range { IsTrue (is_number_of key result.value) }
         ensures new { self.new ≡ with_number key entry self.old }
     {
         match key {
-            Key::Register { kind: RegKind::Count, number } => table::replace(&mut self.counts, number as usize, entry),
-            Key::Register { kind: RegKind::Dimen, number } => table::replace(&mut self.dimens, number as usize, entry),
-            Key::Parameter(place) => table::replace(&mut self.number_parameters, place as usize, entry),
+            Key::Register {
+                kind: RegKind::Count,
+                number,
+            } => table::replace(&mut self.counts, number as usize, entry),
+            Key::Register {
+                kind: RegKind::Dimen,
+                number,
+            } => table::replace(&mut self.dimens, number as usize, entry),
+            Key::Parameter(place) => table::replace(
+                &mut self.number_parameters,
+                place as usize,
+                entry,
+            ),
             Key::Code { table: 0, byte } => self.replace_category(byte, entry),
-            Key::Code { table, byte } => table::replace(&mut self.codes, code_place(table, byte), entry),
+            Key::Code { table, byte } => table::replace(
+                &mut self.codes,
+                code_place(table, byte),
+                entry,
+            ),
             Key::CurrentFont => mem::replace(&mut self.font, entry),
-            Key::Family { size, number } => table::replace(&mut self.families, family_place(size, number), entry),
+            Key::Family { size, number } => table::replace(
+                &mut self.families,
+                family_place(size, number),
+                entry,
+            ),
             _ => unreachable!(),
         }
     }
@@ -295,6 +364,7 @@ impl Current {
     fn replace_category(&mut self, byte: u8, entry: Entry<i32>) -> Entry<i32>
         requires { IsTrue (is_category entry.value) }
         ensures old { as_value kind.Number result ≡ at self.old (Key.Code 0 byte) }
+        ensures range { IsTrue (is_category result.value) }
         ensures new { self.new ≡ with_number (Key.Code 0 byte) entry self.old }
     {
         let value = i32::from(self.categories.get(byte));
@@ -311,9 +381,19 @@ impl Current {
         ensures new { self.new ≡ with_glue key entry self.old }
     {
         match key {
-            Key::Register { kind: RegKind::Skip, number } => table::replace(&mut self.skips, number as usize, entry),
-            Key::Register { kind: RegKind::Muskip, number } => table::replace(&mut self.muskips, number as usize, entry),
-            Key::Parameter(place) => table::replace(&mut self.glue_parameters, place as usize, entry),
+            Key::Register {
+                kind: RegKind::Skip,
+                number,
+            } => table::replace(&mut self.skips, number as usize, entry),
+            Key::Register {
+                kind: RegKind::Muskip,
+                number,
+            } => table::replace(&mut self.muskips, number as usize, entry),
+            Key::Parameter(place) => table::replace(
+                &mut self.glue_parameters,
+                place as usize,
+                entry,
+            ),
             _ => unreachable!(),
         }
     }
@@ -325,8 +405,15 @@ impl Current {
         ensures new { self.new ≡ with_tokens key entry self.old }
     {
         match key {
-            Key::Register { kind: RegKind::Toks, number } => table::replace(&mut self.lists, number as usize, entry),
-            Key::Parameter(place) => table::replace(&mut self.token_parameters, place as usize, entry),
+            Key::Register {
+                kind: RegKind::Toks,
+                number,
+            } => table::replace(&mut self.lists, number as usize, entry),
+            Key::Parameter(place) => table::replace(
+                &mut self.token_parameters,
+                place as usize,
+                entry,
+            ),
             _ => unreachable!(),
         }
     }
@@ -349,6 +436,7 @@ impl Current {
         requires room { IsTrue (has_room self.old key) }
         requires kind { IsTrue (fits key entry.value) }
         ensures old { result ≡ at self.old key }
+        ensures fits { IsTrue (fits key result.value) }
         ensures new { (other : Key) → at self.new other ≡ updated key entry (at self.old) other }
         ensures kept { (other : Key) → IsTrue (has_room self.old other) → IsTrue (has_room self.new other) }
     {
@@ -356,19 +444,31 @@ impl Current {
         match value {
             Value::Number(value) => {
                 let old = self.replace_number(key, Entry { value, level });
-                Entry { value: Value::Number(old.value), level: old.level }
+                Entry {
+                    value: Value::Number(old.value),
+                    level: old.level,
+                }
             }
             Value::Glue(value) => {
                 let old = self.replace_glue(key, Entry { value, level });
-                Entry { value: Value::Glue(old.value), level: old.level }
+                Entry {
+                    value: Value::Glue(old.value),
+                    level: old.level,
+                }
             }
             Value::Tokens(value) => {
                 let old = self.replace_tokens(key, Entry { value, level });
-                Entry { value: Value::Tokens(old.value), level: old.level }
+                Entry {
+                    value: Value::Tokens(old.value),
+                    level: old.level,
+                }
             }
             Value::Meaning(value) => {
                 let old = self.replace_meaning(key, Entry { value, level });
-                Entry { value: Value::Meaning(old.value), level: old.level }
+                Entry {
+                    value: Value::Meaning(old.value),
+                    level: old.level,
+                }
             }
         }
     }

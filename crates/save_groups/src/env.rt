@@ -2,7 +2,7 @@
 //! `tex.web`, part 19).
 #![tactic(auto, unfolding(crate::specs::Standing::copies_of))]
 
-ghost use Rattle.std.specs.Prelude.{◌≡◌, ℕ, pos, IsTrue, IsSome, IsErr, IfOk, IfErr, OnOk, OnErr, Some, length, vec_len, vec_capacity, take, drop, slice_get, ◌<◌, ◌≤◌, ◌↔◌};
+ghost use Rattle.std.specs.Prelude.{◌≡◌, ◌==◌, ◌&&◌, not, nat_lt, ◌++◌, ◌∷◌, [], true, ℕ, pos, IsTrue, IsSome, IsErr, IfOk, IfErr, OnOk, OnErr, Some, length, vec_len, vec_capacity, take, drop, slice_get, ◌<◌, ◌≤◌, ◌↔◌};
 ghost use Rattle.std.specs.Option.{option_copied, option_map};
 ghost use Rattle.std.specs.List.{list_all};
 ghost use Rattle.tokens.specs.Categories.{category};
@@ -10,8 +10,8 @@ ghost use Rattle.tokens.specs.declared.stop.Stop.TheVariants.{Capacity};
 ghost use Rattle.tokens.specs.declared.cap.Cap.TheVariants.{Groups};
 ghost use Rattle.save_groups.specs.Keys.{is_key, holds_number, holds_glue, holds_tokens, holds_meaning};
 ghost use Rattle.save_groups.specs.Values.{fits};
-ghost use Rattle.save_groups.specs.Environments.{beginning, entered, left, innermost, told_of, with_after, level_of, kind_of};
-ghost use Rattle.save_groups.specs.Assignment.{assigned};
+ghost use Rattle.save_groups.specs.Environments.{beginning, updated, entered, left, innermost, told_of, with_after, level_of, kind_of};
+ghost use Rattle.save_groups.specs.Assignment.{assigned, changes_nothing, assigned_locally, assigned_globally, assigned_here};
 ghost use Rattle.save_groups.specs.Standing.{copies_of, undone, restored};
 ghost use Rattle.save_groups.specs.Entries.{at, has_room};
 ghost use Rattle.save_groups.specs.Kept.{can_return, marks_of, waiting};
@@ -187,6 +187,72 @@ impl Env {
         }
     }
 
+    /// Puts a value into an entry, until the group ends or for good. After a refusal all is as it was.
+    pub fn assign<L: Ledger>(
+        &mut self,
+        key: Key,
+        value: Value,
+        scope: Scope,
+        _steps: &mut Steps<L>,
+    ) -> Result<(), AllocError>
+        requires key { IsTrue (is_key (copies_of self.old).extended key) }
+        requires kind { IsTrue (fits key value) }
+        ensures ok { OnOk result (copies_of self.new ≡ assigned key value scope (copies_of self.old)) }
+        ensures err { OnErr result (copies_of self.new ≡ copies_of self.old) }
+        ensures steps { _steps.new ≡ _steps.old }
+    {
+        match scope {
+            Scope::Local => self.assign_locally(key, value),
+            Scope::Global => self.assign_globally(key, value),
+        }
+    }
+
+    fn assign_globally(&mut self, key: Key, value: Value) -> Result<(), AllocError>
+        requires key { IsTrue (is_key (copies_of self.old).extended key) }
+        requires kind { IsTrue (fits key value) }
+        ensures ok { OnOk result (copies_of self.new ≡ assigned_globally key value (copies_of self.old)) }
+        ensures err { OnErr result (copies_of self.new ≡ copies_of self.old) }
+    {
+        change(&mut self.current, key, value, 1)
+    }
+
+    fn assign_locally(&mut self, key: Key, value: Value) -> Result<(), AllocError>
+        requires key { IsTrue (is_key (copies_of self.old).extended key) }
+        requires kind { IsTrue (fits key value) }
+        ensures ok { OnOk result (copies_of self.new ≡ assigned_locally key value (copies_of self.old)) }
+        ensures err { OnErr result (copies_of self.new ≡ copies_of self.old) }
+    {
+        if self.changes_nothing(key, &value) {
+            return Ok(());
+        }
+        self.assign_here(key, value)
+    }
+
+    /// Whether a local assignment is of the very value that stands there, which in extended mode changes nothing.
+    fn changes_nothing(&self, key: Key, value: &Value) -> bool
+        requires key { IsTrue (is_key (copies_of self.now).extended key) }
+        requires kind { IsTrue (fits key value.now) }
+        ensures { result ≡ changes_nothing key value.now (copies_of self.now) }
+    {
+        self.extended && self.current.is_same(key, value)
+    }
+
+    /// A local assignment that changes the entry, whatever value stands there. It saves that where the entry
+    /// wasn't assigned in this group yet.
+    fn assign_here(&mut self, key: Key, value: Value) -> Result<(), AllocError>
+        requires key { IsTrue (is_key (copies_of self.old).extended key) }
+        requires kind { IsTrue (fits key value) }
+        ensures ok { OnOk result (copies_of self.new ≡ assigned_here key value (copies_of self.old)) }
+        ensures err { OnErr result (copies_of self.new ≡ copies_of self.old) }
+    {
+        let level = self.groups.len() as u16 + 1;
+        if needs_save(level, self.current.level(key)) {
+            save_and_change(&mut self.current, &mut self.saves, key, value, level)
+        } else {
+            change(&mut self.current, key, value, level)
+        }
+    }
+
     /// Lets a token wait for the end of the innermost group.
     pub fn after_group(&mut self, token: Token) -> Result<(), AllocError>
         requires { IsSome (innermost (copies_of self.old)) }
@@ -208,6 +274,65 @@ fn wait(groups: &mut Vec<Group>, token: Token) -> Result<(), AllocError>
     let last = groups.len() - 1;
     groups[last].after.push(token)?;
     Ok(())
+}
+
+/// Whether a local assignment in the group of this level saves an entry of this level.
+fn needs_save(level: u16, entry: u16) -> bool
+    ensures { result ≡ (nat_lt 1 level && not (entry == level)) }
+{
+    level > 1 && entry != level
+}
+
+/// Puts a value into an entry, which the tables are made to reach.
+fn change(current: &mut Current, key: Key, value: Value, level: u16) -> Result<(), AllocError>
+    requires key { IsTrue (is_key true key) }
+    requires kind { IsTrue (fits key value) }
+    ensures ok { OnOk result ((other : Key) → at current.new other ≡ updated key (record { value = value; level = level }) (at current.old) other) }
+    ensures err { OnErr result ((other : Key) → at current.new other ≡ at current.old other) }
+    ensures kept { (other : Key) → IsTrue (has_room current.old other) → IsTrue (has_room current.new other) }
+{
+    current.reserve(key)?;
+    let _replaced = current.replace(key, Entry { value, level });
+    Ok(())
+}
+
+/// The same, with a save of what stood there.
+fn save_and_change(
+    current: &mut Current,
+    saves: &mut Vec<Save>,
+    key: Key,
+    value: Value,
+    group: u16,
+) -> Result<(), AllocError>
+    requires key { IsTrue (is_key true key) }
+    requires kind { IsTrue (fits key value) }
+    requires returns { IsTrue (list_all (can_return current.old) saves.old.items) }
+    ensures ok { OnOk result ((other : Key) → at current.new other ≡ updated key (record { value = value; level = group }) (at current.old) other) }
+    ensures saved { OnOk result (saves.new.items ≡ saves.old.items
+        ++ record { key = key; group = group; level = (at current.old key).level; value = (at current.old key).value } ∷ []) }
+    ensures err { OnErr result ((other : Key) → at current.new other ≡ at current.old other) }
+    ensures unsaved { OnErr result (saves.new.items ≡ saves.old.items) }
+    ensures returns { IsTrue (list_all (can_return current.new) saves.new.items) }
+{
+    current.reserve(key)?;
+    saves.reserve(1)?;
+    let old = current.replace(
+        key,
+        Entry {
+            value,
+            level: group,
+        },
+    );
+    let save = Save {
+        key,
+        group,
+        level: old.level,
+        value: old.value,
+    };
+    match saves.push(save) {
+        Ok(()) => Ok(()),
+        Err(_) => unreachable!(),
+    }
 }
 
 /// Undoes the saves behind the first ones, the newest first.
@@ -232,7 +357,12 @@ fn put_back(current: &mut Current, save: Save)
     ensures restored { (other : Key) → at current.new other ≡ restored save (at current.old) other }
     ensures kept { (other : Key) → IsTrue (has_room current.old other) → IsTrue (has_room current.new other) }
 {
-    let Save { key, level, value, .. } = save;
+    let Save {
+        key,
+        level,
+        value,
+        ..
+    } = save;
     if current.level(key) != 1 {
         let _replaced = current.replace(key, Entry { value, level });
     }

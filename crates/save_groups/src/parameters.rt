@@ -21,12 +21,21 @@ pub const PARAMETER_COUNT: u8 = 111;
 
 /// The places of the integer parameters that aren't 0 at the start.
 pub const TOLERANCE: u8 = 1;
+
 pub const MAG: u8 = 17;
+
 pub const TIME: u8 = 20;
+
 pub const DAY: u8 = 21;
+
 pub const MONTH: u8 = 22;
+
 pub const YEAR: u8 = 23;
+
 pub const MAX_DEAD_CYCLES: u8 = 40;
+
 pub const HANG_AFTER: u8 = 41;
+
 pub const ESCAPE_CHAR: u8 = 45;
+
 pub const END_LINE_CHAR: u8 = 48;

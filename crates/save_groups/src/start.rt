@@ -6,7 +6,8 @@ ghost use Rattle.save_groups.specs.StartTables.{number_at_start, code_at_start, 
 
 use crate::entry::Entry;
 use crate::parameters::{
-    DAY, END_LINE_CHAR, ESCAPE_CHAR, HANG_AFTER, MAG, MAX_DEAD_CYCLES, MONTH, PARAMETER_COUNT, TIME, TOLERANCE, YEAR,
+    DAY, END_LINE_CHAR, ESCAPE_CHAR, HANG_AFTER, MAG, MAX_DEAD_CYCLES, MONTH, PARAMETER_COUNT,
+    TIME, TOLERANCE, YEAR,
 };
 use std::alloc::{AllocError, Global};
 use tokens::{Meaning, NameId, PRIMITIVE_COUNT, start_meaning};
@@ -19,13 +20,18 @@ const CODE_COUNT: u16 = 1280;
 pub fn start_numbers(alloc: Global) -> Result<Vec<Entry<i32>>, AllocError>
     ensures { IfOk result (λ table. table.items ≡ start_numbers) }
 {
-    (0..PARAMETER_COUNT).map(|place| number_entry(place)).collect(alloc)
+    (0..PARAMETER_COUNT)
+        .map(|place| number_entry(place))
+        .collect(alloc)
 }
 
 fn number_entry(place: u8) -> Entry<i32>
     ensures { result ≡ number_at_start place }
 {
-    Entry { value: start_number(place), level: 1 }
+    Entry {
+        value: start_number(place),
+        level: 1,
+    }
 }
 
 fn start_number(place: u8) -> i32
@@ -51,13 +57,18 @@ fn start_number(place: u8) -> i32
 pub fn start_codes(alloc: Global) -> Result<Vec<Entry<i32>>, AllocError>
     ensures { IfOk result (λ table. table.items ≡ start_codes) }
 {
-    (0..CODE_COUNT).map(|place| code_entry(place)).collect(alloc)
+    (0..CODE_COUNT)
+        .map(|place| code_entry(place))
+        .collect(alloc)
 }
 
 fn code_entry(place: u16) -> Entry<i32>
     ensures { result ≡ code_at_start place }
 {
-    Entry { value: start_code((place / 256) as u8, (place % 256) as u8), level: 1 }
+    Entry {
+        value: start_code((place / 256) as u8, (place % 256) as u8),
+        level: 1,
+    }
 }
 
 /// A code in a table behind that of the categories.
@@ -139,13 +150,18 @@ fn delcode(byte: u8) -> i32
 pub fn start_names(alloc: Global, extended: bool) -> Result<Vec<Entry<Meaning>>, AllocError>
     ensures { IfOk result (λ table. table.items ≡ start_names extended) }
 {
-    (0..PRIMITIVE_COUNT).map(|id| meaning_entry(id, extended)).collect(alloc)
+    (0..PRIMITIVE_COUNT)
+        .map(|id| meaning_entry(id, extended))
+        .collect(alloc)
 }
 
 fn meaning_entry(id: u16, extended: bool) -> Entry<Meaning>
     ensures { result ≡ meaning_at_start extended id }
 {
-    Entry { value: start_meaning(NameId(u64::from(id)), extended), level: 1 }
+    Entry {
+        value: start_meaning(NameId(u64::from(id)), extended),
+        level: 1,
+    }
 }
 
 /// The levels of the categories.

@@ -16,10 +16,10 @@ undoing-preserved c =
     record {
       within = shorter;
       left = undone-step c.undoing.saves.items c.pop.new.self.items c.in-Some.save c.args.first (at c.undoing.current) (at c.put_back.new.current) _
-        c.in-Some.ensures.items shorter c.put_back.ensures.restored c.undoing.invariant.left;
+          c.in-Some.ensures.items shorter c.put_back.ensures.restored c.undoing.invariant.left;
       front = front-step c.undoing.saves.items c.pop.new.self.items c.in-Some.save c.args.first _ c.in-Some.ensures.items shorter c.undoing.invariant.front;
       returns = returns-further c.undoing.current c.put_back.new.current c.pop.new.self.items c.put_back.ensures.kept
-        (all_before (can_return c.undoing.current) c.undoing.saves.items c.pop.new.self.items c.in-Some.save c.in-Some.ensures.items c.undoing.invariant.returns);
+          (all_before (can_return c.undoing.current) c.undoing.saves.items c.pop.new.self.items c.in-Some.save c.in-Some.ensures.items c.undoing.invariant.returns);
     }
 
 pub returns-clause-undone : goal.returns-clause-undone

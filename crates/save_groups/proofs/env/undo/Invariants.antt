@@ -12,7 +12,7 @@ invariant-undoing l = record {
   within : l.first ≤ length l.saves.items;
   left : undone (drop l.first l.saves.items) (at l.current) ≡ undone (drop l.first l.initial.saves.items) (at l.initial.current);
   front : take l.first l.saves.items ≡ take l.first l.initial.saves.items;
-  returns : IsTrue (list_all (can_return l.current) l.saves.items)
+  returns : IsTrue (list_all (can_return l.current) l.saves.items);
 }
 
 abbrev pub decreases-undoing : goal.decreases-undoing

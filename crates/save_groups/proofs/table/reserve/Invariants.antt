@@ -7,7 +7,7 @@ use Rattle.save_groups.proofs.table.reserve.Given as goal
 abbrev pub invariant-growing : goal.invariant-growing
 invariant-growing g l = record {
   same : ReadsAlike (fresh g.V.Initial.start) l.initial.table.items l.table.items;
-  longer : vec_len l.initial.table ≤ vec_len l.table
+  longer : vec_len l.initial.table ≤ vec_len l.table;
 }
 
 abbrev pub decreases-growing : goal.decreases-growing

@@ -14,9 +14,10 @@ returns-then-len-ge-MAX_GROUPS-clause-full c =
     (λ e. omega (arith, length-copies c.self.inside c.args.self.now c.self.view_is, c.len.ensures, c.self.inside.groups.ok.0, c.if-len-ge-MAX_GROUPS.true), λ h. refl)
 
 pub returns-clause-full : goal.returns-clause-full
-returns-clause-full c =
-    (λ e. absurd (false≢true e),
-    λ h. absurd (omega (arith, h, length-copies c.self.inside c.args.self.now c.self.view_is, c.len.ensures, c.self.inside.groups.ok.0, c.if-len-ge-MAX_GROUPS.false)))
+returns-clause-full c = (
+  λ e. absurd (false≢true e),
+  λ h. absurd (omega (arith, h, length-copies c.self.inside c.args.self.now c.self.view_is, c.len.ensures, c.self.inside.groups.ok.0, c.if-len-ge-MAX_GROUPS.false)),
+)
 
 pub invariant_of-self : goal.invariant_of-self
 invariant_of-self c =

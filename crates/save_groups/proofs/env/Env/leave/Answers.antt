@@ -11,8 +11,8 @@ invariant_of-self g c = record {
   room = omega (arith, c.self.invariant.room, c.in-Some.ensures.capacity);
   few = omega (arith, c.self.invariant.few, c.in-Some.ensures.len);
   kept = kept-leave (marks_of c.self.inside.groups.items) (mark_of c.in-Some.group) (marks_of c.pop.new.self.items) c.self.inside.saves.items c.undo.new.saves.items
-    (at c.self.inside.current) (at c.undo.new.current) (ap marks_of c.in-Some.ensures.items ∙ marks-push c.pop.new.self.items c.in-Some.group)
-    c.self.invariant.kept c.undo.ensures.undone c.undo.ensures.rest;
+      (at c.self.inside.current) (at c.undo.new.current) (ap marks_of c.in-Some.ensures.items ∙ marks-push c.pop.new.self.items c.in-Some.group)
+      c.self.invariant.kept c.undo.ensures.undone c.undo.ensures.rest;
   returns = c.undo.ensures.returns;
 }
 
