@@ -9,3 +9,4 @@ pub mod Entries
 pub mod Standing
 pub mod Table
 pub mod Kept
+pub mod Calls

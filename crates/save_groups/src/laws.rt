@@ -1,9 +1,13 @@
-//! Laws of the definitions.
-ghost use Rattle.std.specs.Prelude.{◌≡◌, true};
-ghost use Rattle.save_groups.specs.Assignment.{assigned};
-ghost use Rattle.save_groups.specs.Environments.{Copies, entered, beginning};
+//! Laws of the environments, over any list of calls.
+ghost use Rattle.save_groups.specs.Calls.{CallsLaw, SavesLaw};
 
-/// temporary
-pub fn laws()
-    ensures a { (c : Copies) → c ≡ c }
+/// What the calls on new environments make of them is what the accepted ones make, one after another. A call
+/// that was refused is left out.
+pub fn calls_law()
+    ensures law { CallsLaw }
+{}
+
+/// How many saves an assignment makes: one at most, and none where it is global.
+pub fn saves_law()
+    ensures law { SavesLaw }
 {}
