@@ -35,6 +35,9 @@ use tokens::{Cap, CatTable, Meaning, Stop, Token, TokenList};
 /// How many groups can be open.
 const MAX_GROUPS: usize = 255;
 
+/// The level of what was assigned globally, or outside all groups.
+const GLOBAL_LEVEL: u16 = 1;
+
 /// All environments of a run. Contracts see what `copies_of` makes of it: one whole environment outside all groups,
 /// and one more for each open group.
 #[derive(Drop)]
@@ -363,7 +366,7 @@ fn put_back(current: &mut Current, save: Save)
         value,
         ..
     } = save;
-    if current.level(key) != 1 {
+    if current.level(key) != GLOBAL_LEVEL {
         let _replaced = current.replace(key, Entry { value, level });
     }
 }
