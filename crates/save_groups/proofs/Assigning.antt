@@ -1,8 +1,8 @@
 -- What an assignment makes of the environments that a store stands for.
-use Rattle.std.proofs.Common.{◌≡◌, ◌≢◌, ℕ, ◌+◌, ◌<◌, ◌≤◌, List, [], ◌∷◌, ◌++◌, length, Bool, true, false, refl, ap, sym, ◌∙◌, subst, arith}
-use Rattle.std.specs.Prelude.{Result, Ok, Err, OnOk, OnErr, ◌==◌, ◌&&◌, not, nat_lt, IsTrue, if◌then◌else◌}
+use Rattle.std.proofs.Common.{◌≡◌, ℕ, ◌+◌, ◌<◌, List, [], ◌∷◌, ◌++◌, length, Bool, true, false, refl, ap, sym, ◌∙◌, subst, arith}
+use Rattle.std.specs.Prelude.{Result, Ok, Err, OnOk, OnErr, ◌==◌, ◌&&◌, not, nat_lt, if◌then◌else◌}
 use Rattle.std.proofs.Math.Path.{fun_ext}
-use Rattle.std.proofs.lemmas.Bool.{and_from, and_parts, eq-eqb, eqb-true, eqb-false, false≢true, lt-ltb, ltb-true}
+use Rattle.std.proofs.lemmas.Bool.{and_parts, eqb-true, eqb-false, false≢true, lt-ltb, ltb-true}
 use Rattle.save_groups.specs.declared.key.Key.{Key}
 use Rattle.save_groups.specs.declared.value.Value.{Value}
 use Rattle.save_groups.specs.declared.entry.Entry.{Entry}
@@ -12,7 +12,7 @@ use Rattle.save_groups.specs.Assignment.{assigned_here, assigned_globally, assig
 use Rattle.save_groups.specs.Entries.{Entries, at}
 use Rattle.save_groups.specs.Standing.{Store, Mark, copies_of}
 use Rattle.save_groups.specs.Kept.{AreKept}
-use Rattle.save_groups.proofs.Keeping.{kept-global, kept-outermost, kept-again, kept-saving}
+use Rattle.save_groups.proofs.Keeping.{kept-outermost, kept-again, kept-saving}
 use Rattle.save_groups.proofs.Stores.{copies_with, copies-global, copies-outermost, copies-again, copies-saving}
 
 -- one way or the other

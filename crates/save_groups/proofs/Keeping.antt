@@ -1,11 +1,11 @@
 -- What the store of environments keeps stays, whatever is done.
-use Rattle.std.proofs.Common.{◌≡◌, ◌≢◌, ℕ, ◌+◌, ◌<◌, ◌≤◌, List, [], ◌∷◌, ◌++◌, length, take, drop, Bool, true, false, refl, ap, sym, ◌∙◌, subst, arith, length-append}
-use Rattle.std.specs.Prelude.{◌==◌, ◌&&◌, ◌||◌, not, nat_le, filter, if◌then◌else◌, IsTrue}
-use Rattle.std.specs.List.{list_any, list_all}
-use Rattle.std.proofs.lemmas.Bool.{and_from, and_parts, eq-eqb, eqb-true, eqb-false, ne_eqb, false≢true, leb-true, le-leb}
+use Rattle.std.proofs.Common.{◌≡◌, ◌≢◌, ℕ, ◌+◌, ◌≤◌, List, [], ◌∷◌, ◌++◌, length, take, drop, Bool, true, false, refl, ap, sym, ◌∙◌, subst, arith, length-append}
+use Rattle.std.specs.Prelude.{◌==◌, ◌||◌, not, nat_le, filter, if◌then◌else◌, IsTrue}
+use Rattle.std.specs.List.{list_all}
+use Rattle.std.proofs.lemmas.Bool.{and_from, and_parts, eq-eqb, eqb-true, ne_eqb, false≢true, leb-true, le-leb}
 use Rattle.std.proofs.lemmas.List.Folds.{list_all-append, list_any-append}
 use Rattle.std.proofs.lemmas.List.Elements.{filter-append}
-use Rattle.std.proofs.lemmas.List.{take-append-drop, take-append-le, drop-append-le, append-nil, length-take-le}
+use Rattle.std.proofs.lemmas.List.{take-append-drop, take-append-le, drop-append-le, append-nil}
 use Rattle.std.proofs.Math.Seq.{drop-length, take-length}
 use Rattle.save_groups.specs.declared.key.Key.{Key}
 use Rattle.save_groups.specs.declared.value.Value.{Value}
@@ -13,9 +13,9 @@ use Rattle.save_groups.specs.declared.entry.Entry.{Entry}
 use Rattle.save_groups.specs.declared.save.Save.{Save}
 use Rattle.save_groups.specs.Keys.{same_key}
 use Rattle.save_groups.specs.Environments.{Environment, updated, saves_outside}
-use Rattle.save_groups.specs.Standing.{Mark, undone, restored}
-use Rattle.save_groups.specs.Kept.{is_saved, IsKept, AreKept}
-use Rattle.save_groups.proofs.KeyLemmas.{same_key-equal, same_key-refl, updated-same, updated-other}
+use Rattle.save_groups.specs.Standing.{Mark, undone}
+use Rattle.save_groups.specs.Kept.{is_saved, AreKept}
+use Rattle.save_groups.proofs.KeyLemmas.{same_key-equal, updated-same, updated-other}
 use Rattle.save_groups.proofs.Undoing.{undone-append, undone-global, undone-saved, undone-made}
 
 -- a change of an entry, seen at any entry

@@ -1,4 +1,3 @@
-pub mod Tables
 pub mod Replaced
 pub mod Starting
 pub mod KeyLemmas

@@ -1,17 +1,17 @@
 -- Open groups as they are stored, the outermost first, and as the definitions have them, from the inside out.
-use Rattle.std.proofs.Common.{◌≡◌, ℕ, zero, suc, ◌+◌, ◌<◌, ◌≤◌, List, [], ◌∷◌, ◌++◌, length, take, drop, reverse, refl, ap, sym, ◌∙◌, arith, subst, rules}
-use Rattle.std.specs.Prelude.{Result, Ok, Err, OnOk, OnErr, map, slice_index_or, slice_set, IsSome, IsTrue}
+use Rattle.std.proofs.Common.{◌≡◌, ℕ, zero, suc, List, [], ◌∷◌, ◌++◌, length, take, refl, ap, sym, ◌∙◌, arith, subst, rules}
+use Rattle.std.specs.Prelude.{Result, Ok, Err, OnOk, OnErr, map, slice_index_or, slice_set, IsSome}
 use Rattle.std.proofs.lemmas.List.{reverse-append, length-map, length-reverse}
 use Rattle.std.proofs.lemmas.Bool.{false≢true}
 use Rattle.tokens.specs.declared.token.Token.{Token}
 use Rattle.save_groups.specs.declared.group.Group.{Group}
 use Rattle.save_groups.specs.declared.save.Save.{Save}
 use Rattle.save_groups.specs.declared.env.Env.TheInside.{Inside}
-use Rattle.save_groups.specs.Environments.{Environment, Copies, innermost, with_after}
+use Rattle.save_groups.specs.Environments.{Environment, innermost, with_after}
 use Rattle.save_groups.specs.Entries.{at}
 use Rattle.save_groups.specs.Standing.{Store, Mark, copies_of}
 use Rattle.save_groups.specs.Kept.{AreKept, mark_of, marks_of, waiting, store_of}
-use Rattle.save_groups.proofs.Stores.{mark_at, copies_with, copies_of-is, copies-after, length-groups_of}
+use Rattle.save_groups.proofs.Stores.{mark_at, copies_with, copies-after, length-groups_of}
 
 -- one more group
 pub marks-push : (groups : List Group) (group : Group) → marks_of (groups ++ group ∷ []) ≡ mark_of group ∷ marks_of groups

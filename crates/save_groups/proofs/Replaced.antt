@@ -1,24 +1,22 @@
 -- An entry that is put into the tables changes the environment at its key, and nowhere else.
-use Rattle.std.proofs.Common.{◌≡◌, ◌≢◌, ℕ, zero, suc, ◌+◌, ◌*◌, ◌<◌, ◌≤◌, List, [], ◌∷◌, length, Bool, true, false, refl, ap, sym, ◌∙◌, arith, subst}
-use Rattle.std.specs.Prelude.{ℤ, pos, negsuc, nat_lt, nat_le, ◌==◌, ◌&&◌, ◌||◌, not, IsTrue, slice_index, slice_index_or, slice_set, if◌then◌else◌}
+use Rattle.std.proofs.Common.{◌≡◌, ◌≢◌, ℕ, zero, suc, ◌<◌, ◌≤◌, List, [], length, Bool, true, false, refl, ap, sym, ◌∙◌, arith, subst}
+use Rattle.std.specs.Prelude.{ℤ, pos, negsuc, nat_lt, nat_le, ◌==◌, ◌&&◌, ◌||◌, not, IsTrue, slice_index, slice_set, if◌then◌else◌}
 use Rattle.std.proofs.lemmas.Bool.{ltb-true, lt-ltb, eqb-true, eq-eqb, and_parts, and_from, ne_eqb, eqb-false, false≢true, leb-true}
 use Rattle.std.proofs.lemmas.List.{get_or-set_same, get_or-set_other}
 use Rattle.scaled.specs.declared.spacing.Glue.{Glue}
 use Rattle.tokens.specs.declared.token.Token.{Token}
-use Rattle.tokens.specs.declared.meaning.Meaning.{Meaning}
-use Rattle.tokens.specs.declared.meaning.Meaning.TheVariants.{Undefined}
-use Rattle.tokens.specs.declared.meaning.RegKind.TheVariants.{Count, Dimen, Skip, Muskip, Box, Toks}
+use Rattle.tokens.specs.declared.meaning.RegKind.TheVariants.{Count, Dimen, Skip, Muskip, Toks}
 use Rattle.save_groups.specs.declared.key.Key.{Key}
 use Rattle.save_groups.specs.declared.key.Key.TheVariants.{Register, Parameter, Code, Name, Active, CurrentFont, Family}
 use Rattle.save_groups.specs.declared.value.Value.{Value}
 use Rattle.save_groups.specs.declared.value.Value.TheVariants as value
 use Rattle.save_groups.specs.declared.entry.Entry.{Entry}
 use Rattle.save_groups.specs.declared.parameters.TheConstants.{FIRST_GLUE, FIRST_TOKENS, FIRST_EXTENDED, EVERY_EOF}
-use Rattle.save_groups.specs.Keys.{same_key, is_glue_parameter, is_token_parameter, holds_number, holds_glue, holds_tokens, holds_meaning}
+use Rattle.save_groups.specs.Keys.{is_glue_parameter, is_token_parameter, holds_number, holds_glue, holds_tokens}
 use Rattle.save_groups.specs.Values.{fits, is_number_of, is_category}
 use Rattle.save_groups.specs.StartValues.{start_code, start_number, zero_glue}
-use Rattle.save_groups.specs.Environments.{Environment, updated}
-use Rattle.save_groups.specs.Entries.{Entries, at, as_value, fresh, entry_at, parameter_by, parameter_entry, parameter_room_by, has_parameter_room, category_entry, category_of, code_place, family_place, has_room, with_number, with_glue, with_tokens, with_meaning}
+use Rattle.save_groups.specs.Environments.{updated}
+use Rattle.save_groups.specs.Entries.{Entries, at, as_value, fresh, entry_at, parameter_by, parameter_entry, parameter_room_by, has_parameter_room, category_entry, category_of, code_place, family_place, has_room, with_number, with_glue, with_tokens}
 
 -- a table with one entry changed
 written_by : {A : Type 0} (wrap : A → Value) (start : A) (table : List (Entry A)) (place other : ℕ) (entry : Entry A) (b : Bool)

@@ -1,20 +1,20 @@
 -- Single steps of calls: a save that is undone, a group that begins, ends, or gets a token.
-use Rattle.std.proofs.Common.{◌≡◌, ◌≢◌, ℕ, zero, suc, ◌+◌, ◌<◌, ◌≤◌, List, [], ◌∷◌, ◌++◌, length, take, drop, Bool, true, false, refl, ap, sym, ◌∙◌, arith, subst, length-append}
-use Rattle.std.specs.Prelude.{IsTrue, IsSome, IsErr, ◌&&◌}
+use Rattle.std.proofs.Common.{◌≡◌, ℕ, ◌≤◌, List, [], ◌∷◌, ◌++◌, length, take, drop, Bool, true, refl, ap, sym, ◌∙◌, subst}
+use Rattle.std.specs.Prelude.{IsTrue}
 use Rattle.std.specs.List.{list_all}
 use Rattle.std.proofs.Math.Path.{fun_ext}
 use Rattle.std.proofs.Math.Seq.{drop-length}
-use Rattle.std.proofs.lemmas.Bool.{and_from, and_parts, false≢true}
+use Rattle.std.proofs.lemmas.Bool.{and_from, and_parts}
 use Rattle.std.proofs.lemmas.List.{take-append-le, drop-append-le}
 use Rattle.std.proofs.lemmas.List.Folds.{list_all-append}
 use Rattle.save_groups.specs.declared.key.Key.{Key}
 use Rattle.save_groups.specs.declared.save.Save.{Save}
-use Rattle.save_groups.specs.Environments.{Environment, Copies, entered, left, level_of}
+use Rattle.save_groups.specs.Environments.{Environment, left}
 use Rattle.save_groups.specs.Entries.{Entries, at, has_room}
 use Rattle.save_groups.specs.Standing.{Store, Mark, undone, restored, copies_of}
 use Rattle.save_groups.specs.Kept.{AreKept, can_return}
 use Rattle.save_groups.proofs.Undoing.{undone-append}
-use Rattle.save_groups.proofs.Stores.{copies_with, copies_of-is, copies-left, copies-entered, mark_at}
+use Rattle.save_groups.proofs.Stores.{copies_with, copies-left}
 
 -- of a list whose elements pass, the last one passes, and those before it
 pub all_last : {A : Type 0} (p : A → Bool) (xs ys : List A) (y : A) → xs ≡ ys ++ y ∷ [] → IsTrue (list_all p xs) → IsTrue (p y)

@@ -1,18 +1,18 @@
 -- What each call on a store makes of the environments that it stands for.
-use Rattle.std.proofs.Common.{◌≡◌, ◌≢◌, ℕ, ◌+◌, ◌<◌, ◌≤◌, List, [], ◌∷◌, ◌++◌, length, take, drop, Bool, true, false, refl, ap, sym, ◌∙◌, subst, arith, append-nil}
-use Rattle.std.specs.Prelude.{◌==◌, ◌&&◌, not, nat_lt, map, if◌then◌else◌, IsTrue}
+use Rattle.std.proofs.Common.{◌≡◌, ◌≢◌, ℕ, ◌+◌, ◌<◌, ◌≤◌, List, [], ◌∷◌, ◌++◌, length, take, drop, Bool, true, false, refl, ap, sym, ◌∙◌, arith, append-nil}
+use Rattle.std.specs.Prelude.{◌==◌, ◌&&◌, not, nat_lt, map, if◌then◌else◌}
 use Rattle.std.proofs.Math.Path.{fun_ext}
-use Rattle.std.proofs.lemmas.Bool.{and_from, eq-eqb, eqb-true, ne_eqb, false≢true, lt-ltb}
-use Rattle.std.proofs.lemmas.List.{take-append-le, drop-append-le}
+use Rattle.std.proofs.lemmas.Bool.{and_from, eq-eqb, ne_eqb, lt-ltb}
+use Rattle.std.proofs.lemmas.List.{take-append-le}
 use Rattle.std.proofs.Math.Seq.{drop-length, take-length}
 use Rattle.tokens.specs.declared.token.Token.{Token}
 use Rattle.save_groups.specs.declared.key.Key.{Key}
 use Rattle.save_groups.specs.declared.value.Value.{Value}
 use Rattle.save_groups.specs.declared.entry.Entry.{Entry}
 use Rattle.save_groups.specs.declared.save.Save.{Save}
-use Rattle.save_groups.specs.Environments.{Environment, updated, OpenGroup, Copies, level_of, entered, left, saves_outside, beginning, start_environment, with_after}
+use Rattle.save_groups.specs.Environments.{Environment, updated, OpenGroup, Copies, level_of, entered, left, saves_outside, with_after}
 use Rattle.save_groups.specs.Assignment.{saves_made, assigned_here, assigned_globally, with_outside}
-use Rattle.save_groups.specs.Entries.{Entries, at}
+use Rattle.save_groups.specs.Entries.{at}
 use Rattle.save_groups.specs.Standing.{Store, Mark, undone, groups_of, copies_of}
 use Rattle.save_groups.specs.Kept.{AreKept}
 use Rattle.save_groups.proofs.Undoing.{undone-global, undone-saved}

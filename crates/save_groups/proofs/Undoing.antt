@@ -1,5 +1,5 @@
 -- Saves that are undone, where one entry is changed.
-use Rattle.std.proofs.Common.{◌≡◌, ◌≢◌, ℕ, ◌+◌, List, [], ◌∷◌, ◌++◌, Bool, true, false, refl, ap, sym, ◌∙◌, subst}
+use Rattle.std.proofs.Common.{◌≡◌, ◌≢◌, ℕ, List, [], ◌∷◌, ◌++◌, Bool, true, false, refl, ap, sym, ◌∙◌, subst}
 use Rattle.std.specs.Prelude.{◌==◌, ◌||◌, if◌then◌else◌}
 use Rattle.std.proofs.lemmas.Bool.{eq-eqb, eqb-true, eqb-false, ne_eqb, false≢true}
 use Rattle.save_groups.specs.declared.key.Key.{Key}
@@ -10,7 +10,7 @@ use Rattle.save_groups.specs.Keys.{same_key}
 use Rattle.save_groups.specs.Environments.{Environment, updated}
 use Rattle.save_groups.specs.Standing.{restored, undone}
 use Rattle.save_groups.specs.Kept.{is_saved}
-use Rattle.save_groups.proofs.KeyLemmas.{same_key-equal, same_key-refl, same_key-sym, updated-at, updated-same, updated-other, updated-twice, updated-back, updated-swap}
+use Rattle.save_groups.proofs.KeyLemmas.{same_key-equal, same_key-sym, updated-at, updated-same, updated-other, updated-twice, updated-back, updated-swap}
 
 -- saves in two portions
 pub undone-append : (xs ys : List Save) (env : Environment) → undone (xs ++ ys) env ≡ undone xs (undone ys env)

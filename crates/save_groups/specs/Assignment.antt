@@ -1,6 +1,6 @@
 -- Assignments (The TeXbook, chapter 24; tex.web, part 19; the e-TeX manual, on assignments that change nothing):
 -- what a local and a global one change in the environments, and what the former saves.
-use Rattle.std.specs.Prelude.{◌≡◌, ℕ, ◌==◌, nat_lt, Bool, not, ◌&&◌, List, [], ◌∷◌, ◌++◌, map, if◌then◌else◌}
+use Rattle.std.specs.Prelude.{◌==◌, nat_lt, Bool, not, ◌&&◌, List, [], ◌∷◌, ◌++◌, map, if◌then◌else◌}
 use Rattle.save_groups.specs.declared.key.Key.{Key}
 use Rattle.save_groups.specs.declared.key.Scope.{Scope}
 use Rattle.save_groups.specs.declared.key.Scope.TheVariants.{Local, Global}
@@ -8,7 +8,7 @@ use Rattle.save_groups.specs.declared.value.Value.{Value}
 use Rattle.save_groups.specs.declared.entry.Entry.{Entry}
 use Rattle.save_groups.specs.declared.save.Save.{Save}
 use Rattle.save_groups.specs.Values.{same_value}
-use Rattle.save_groups.specs.Environments.{Environment, updated, OpenGroup, Copies, level_of}
+use Rattle.save_groups.specs.Environments.{updated, OpenGroup, Copies, level_of}
 
 -- the save that a local assignment makes: none outside all groups, and none where the entry was assigned in this
 -- group already; else what stood there

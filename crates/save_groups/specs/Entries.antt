@@ -1,6 +1,6 @@
 -- How the environment that is in force is stored: tables by number, place, byte and id, where an entry that no
 -- table reaches has its value of the start and the level 1.
-use Rattle.std.specs.Prelude.{◌≡◌, ℕ, ℤ, pos, negsuc, ◌+◌, ◌*◌, ◌==◌, nat_lt, Bool, true, false, ◌&&◌, List, [], length, slice_index, slice_index_or, slice_set, if◌then◌else◌}
+use Rattle.std.specs.Prelude.{ℕ, ℤ, pos, negsuc, ◌+◌, ◌*◌, nat_lt, Bool, true, false, ◌&&◌, List, [], length, slice_index, slice_index_or, slice_set, if◌then◌else◌}
 use Rattle.std.proofs.Common.{zero, suc}
 use Rattle.scaled.specs.declared.spacing.Glue.{Glue}
 use Rattle.tokens.specs.declared.token.Token.{Token}

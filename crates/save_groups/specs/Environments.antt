@@ -1,6 +1,6 @@
 -- Environments, copied whole at the beginning of each group (The TeXbook, chapter 24, on grouping): the one that
 -- is in force, and for each open group the one that stood outside it.
-use Rattle.std.specs.Prelude.{◌≡◌, ℕ, ◌+◌, ◌==◌, Bool, not, List, [], ◌∷◌, ◌++◌, map, length, filter, Option, Some, None, if◌then◌else◌}
+use Rattle.std.specs.Prelude.{ℕ, ◌+◌, ◌==◌, Bool, not, List, [], ◌∷◌, ◌++◌, map, length, filter, Option, Some, None, if◌then◌else◌}
 use Rattle.tokens.specs.declared.token.Token.{Token}
 use Rattle.save_groups.specs.declared.key.Key.{Key}
 use Rattle.save_groups.specs.declared.value.Value.{Value}

@@ -1,5 +1,5 @@
 -- What the tables of the environment that is in force hold, and how far they reach.
-use Rattle.std.specs.Prelude.{◌≡◌, ℕ, [], length}
+use Rattle.std.specs.Prelude.{◌≡◌, [], length}
 use Rattle.tokens.specs.declared.meaning.Meaning.TheVariants.{Undefined}
 use Rattle.save_groups.specs.declared.current.Current.TheInside.{Inside}
 use Rattle.save_groups.specs.Entries.{Entries}

@@ -1,6 +1,6 @@
 -- What the store of environments keeps: each entry that belongs to an open group was saved in it, and the saves of
 -- a group stand together.
-use Rattle.std.specs.Prelude.{◌≡◌, ℕ, ◌+◌, ◌<◌, ◌≤◌, ◌==◌, Bool, ◌&&◌, true, List, [], ◌∷◌, ◌++◌, length, take, drop, map, reverse, vec_len, vec_capacity, IsTrue}
+use Rattle.std.specs.Prelude.{◌≡◌, ℕ, ◌+◌, ◌≤◌, ◌==◌, Bool, ◌&&◌, true, List, [], ◌∷◌, ◌++◌, length, take, drop, map, reverse, vec_len, vec_capacity, IsTrue}
 use Rattle.std.specs.List.{list_any, list_all}
 use Rattle.tokens.specs.declared.token.Token.{Token}
 use Rattle.save_groups.specs.declared.key.Key.{Key}

@@ -1,7 +1,6 @@
 -- What an environment has an entry for (The TeXbook, chapter 24; tex.web, part 17; the e-TeX manual, on
 -- registers), and which kind of value it holds.
-use Rattle.std.specs.Prelude.{◌≡◌, ℕ, ◌<◌, ◌==◌, nat_lt, nat_le, Bool, true, false, ◌&&◌, ◌||◌, not, if◌then◌else◌}
-use Rattle.std.proofs.Common.{zero, suc}
+use Rattle.std.specs.Prelude.{ℕ, ◌==◌, nat_lt, nat_le, Bool, true, false, ◌&&◌, ◌||◌, not, if◌then◌else◌}
 use Rattle.tokens.specs.declared.meaning.RegKind.TheVariants.{Count, Dimen, Skip, Muskip, Box, Toks}
 use Rattle.tokens.specs.Meaning.{same_reg_kind}
 use Rattle.save_groups.specs.declared.key.Key.{Key}

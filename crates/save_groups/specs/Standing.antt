@@ -1,7 +1,7 @@
 -- What stands for the environments that are copied whole: the environment that is in force, and the saves. The
 -- environment outside a group is found by undoing the saves from the newest to the first of that group (tex.web
 -- 281, where a group ends).
-use Rattle.std.specs.Prelude.{◌≡◌, ℕ, ◌==◌, Bool, List, [], ◌∷◌, take, drop, if◌then◌else◌}
+use Rattle.std.specs.Prelude.{ℕ, ◌==◌, Bool, List, [], ◌∷◌, take, drop, if◌then◌else◌}
 use Rattle.tokens.specs.declared.token.Token.{Token}
 use Rattle.save_groups.specs.declared.save.Save.{Save}
 use Rattle.save_groups.specs.Environments.{Environment, updated, OpenGroup, Copies}

@@ -1,6 +1,6 @@
 -- The tables that are there from the start: parameters that are numbers, codes but for the categories, and the
 -- meanings of the primitives.
-use Rattle.std.specs.Prelude.{ℕ, ℤ, pos, ◌+◌, ◌/◌, ◌%◌, Bool, List, map, replicate}
+use Rattle.std.specs.Prelude.{ℕ, ℤ, pos, ◌/◌, ◌%◌, Bool, List, map, replicate}
 use Rattle.std.specs.List.{range_with_len}
 use Rattle.std.proofs.Common.{suc}
 use Rattle.tokens.specs.declared.meaning.Meaning.{Meaning}

@@ -1,6 +1,6 @@
 -- The values of INITEX, before any assignment (The TeXbook, chapters 7, 24 and appendix B; tex.web 232, 240,
 -- 250): the categories, the pairs of letters, and the few parameters that aren't zero.
-use Rattle.std.specs.Prelude.{◌≡◌, ℕ, ℤ, pos, negsuc, ◌+◌, ◌-◌, ◌==◌, nat_lt, nat_le, Bool, true, false, ◌&&◌, List, [], if◌then◌else◌}
+use Rattle.std.specs.Prelude.{ℕ, ℤ, pos, negsuc, ◌+◌, ◌-◌, ◌==◌, nat_le, Bool, true, false, ◌&&◌, [], if◌then◌else◌}
 use Rattle.std.proofs.Common.{zero, suc}
 use Rattle.scaled.specs.declared.spacing.Glue.{Glue}
 use Rattle.scaled.specs.declared.spacing.Order.TheVariants.{Normal}

@@ -1,7 +1,7 @@
 -- Values of entries: when two are the same (the e-TeX manual, on assignments that change nothing), and which an
 -- entry can hold.
-use Rattle.std.specs.Prelude.{◌≡◌, ℕ, ℤ, pos, negsuc, nat_lt, Bool, true, false, ◌&&◌, List}
-use Rattle.std.proofs.Common.{zero, suc}
+use Rattle.std.specs.Prelude.{ℤ, pos, negsuc, nat_lt, Bool, true, false, ◌&&◌}
+use Rattle.std.proofs.Common.{zero}
 use Rattle.std.specs.Ordering.{int_eq}
 use Rattle.tokens.specs.TokenList.{same_tokens}
 use Rattle.tokens.specs.Meaning.{same_meaning}

@@ -1,5 +1,5 @@
 -- Each turn undoes the last save.
-use Rattle.std.proofs.Common.{◌≡◌, ◌≤◌, length, arith, length-append}
+use Rattle.std.proofs.Common.{◌≤◌, length, arith}
 use Rattle.save_groups.specs.Entries.{at}
 use Rattle.save_groups.specs.Kept.{can_return}
 use Rattle.save_groups.proofs.Steps.{all_last, all_before, returns-further, undone-step, front-step, undone-all}

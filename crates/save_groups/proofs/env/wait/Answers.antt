@@ -1,5 +1,5 @@
 -- The innermost group is the last one.
-use Rattle.std.proofs.Common.{◌≡◌, ◌∙◌, refl, ap, sym, arith, suc, length, ◌+◌, ◌-◌, List}
+use Rattle.std.proofs.Common.{◌≡◌, refl, arith, suc, length, ◌-◌}
 use Rattle.save_groups.specs.declared.group.Group.{Group}
 use Rattle.save_groups.proofs.Marks.{marks-same, marks-waiting, mark-same, mark-more, on_err}
 use Rattle.save_groups.proofs.env.wait.Goals as goal

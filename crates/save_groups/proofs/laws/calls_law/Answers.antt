@@ -1,8 +1,7 @@
 -- By the list of calls.
-use Rattle.std.proofs.Common.{◌≡◌, List, [], ◌∷◌, Bool, refl, ap, sym, ◌∙◌}
-use Rattle.save_groups.specs.Environments.{beginning}
+use Rattle.std.proofs.Common.{◌≡◌, List, [], ◌∷◌, ap, ◌∙◌}
 use Rattle.save_groups.specs.Standing.{Store, copies_of}
-use Rattle.save_groups.specs.Calls.{CallsLaw, Attempt, ComesTo, after_attempts, attempted}
+use Rattle.save_groups.specs.Calls.{CallsLaw, Attempt, ComesTo, after_attempts}
 use Rattle.save_groups.proofs.laws.calls_law.Goals as goal
 
 comes_to : (s t : Store) (attempts : List Attempt) → ComesTo s attempts t → copies_of t ≡ after_attempts attempts (copies_of s)

@@ -1,5 +1,5 @@
 -- By the kind of assignment.
-use Rattle.std.proofs.Common.{◌≡◌, ◌≤◌, ℕ, ◌+◌, List, [], ◌∷◌, ◌++◌, length, Bool, true, false, refl, arith, length-append}
+use Rattle.std.proofs.Common.{◌≡◌, ◌≤◌, ◌+◌, List, [], ◌∷◌, ◌++◌, length, Bool, true, false, refl, arith, length-append}
 use Rattle.std.specs.Prelude.{if◌then◌else◌, nat_lt, ◌==◌, ◌&&◌, not}
 use Rattle.save_groups.specs.declared.key.Key.{Key}
 use Rattle.save_groups.specs.declared.key.Scope.{Scope}

@@ -1,5 +1,5 @@
 -- The table is read as at the beginning, and doesn't get shorter; it comes nearer to the place.
-use Rattle.std.proofs.Common.{ℕ, ◌≤◌, vec_len, ◌+◌, ◌-◌}
+use Rattle.std.proofs.Common.{◌≤◌, vec_len, ◌+◌, ◌-◌}
 use Rattle.save_groups.specs.Entries.{fresh}
 use Rattle.save_groups.specs.Table.{ReadsAlike}
 use Rattle.save_groups.proofs.table.reserve.Given as goal

@@ -5,7 +5,7 @@ use Rattle.save_groups.specs.Kept.{marks_of, store_of}
 use Rattle.save_groups.proofs.Keeping.{kept-global}
 use Rattle.save_groups.proofs.Steps.{returns-further}
 use Rattle.std.proofs.Common.{refl}
-use Rattle.save_groups.proofs.Assigning.{either, kept-along, store-global, store-unsaved, store-saved, kept-saved, kept-unsaved, kept-refused, locally-changed}
+use Rattle.save_groups.proofs.Assigning.{either, kept-along, store-global}
 use Rattle.save_groups.proofs.env.Env.assign_globally.Goals as goal
 
 pub invariant_of-self : goal.invariant_of-self

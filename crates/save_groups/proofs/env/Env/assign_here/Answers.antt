@@ -1,11 +1,9 @@
 -- A save is made just where the definition makes one.
-use Rattle.std.proofs.Common.{◌≡◌, ℕ, ◌+◌, Bool, true, false, length, arith, ap, sym, ◌∙◌, List}
+use Rattle.std.proofs.Common.{◌≡◌, ℕ, ◌+◌, Bool, true, false, length, arith, ap, sym, ◌∙◌}
 use Rattle.std.specs.Prelude.{◌==◌, ◌&&◌, not, nat_lt}
 use Rattle.std.proofs.lemmas.Result.{on_ok_weaker}
-use Rattle.save_groups.specs.declared.save.Save.{Save}
-use Rattle.save_groups.specs.Environments.{Environment}
 use Rattle.save_groups.specs.Entries.{at}
-use Rattle.save_groups.specs.Kept.{AreKept, marks_of, store_of}
+use Rattle.save_groups.specs.Kept.{marks_of, store_of}
 use Rattle.save_groups.proofs.Marks.{length-marks_of}
 use Rattle.save_groups.proofs.Steps.{returns-further}
 use Rattle.save_groups.proofs.Assigning.{either, either_of, both_ok, kept-along, kept-refused, kept-saved, kept-unsaved, store-saved, store-unsaved}

@@ -1,8 +1,8 @@
 -- The very value changes nothing in extended mode.
-use Rattle.std.proofs.Common.{◌≡◌, sym, ◌∙◌}
+use Rattle.std.proofs.Common.{sym, ◌∙◌}
 use Rattle.std.proofs.lemmas.Result.{on_ok_weaker}
 use Rattle.save_groups.specs.Standing.{copies_of}
-use Rattle.save_groups.proofs.Assigning.{locally-changed, locally-unchanged}
+use Rattle.save_groups.proofs.Assigning.{locally-changed}
 use Rattle.save_groups.proofs.env.Env.assign_locally.Goals as goal
 
 pub returns-clause-ok : goal.returns-clause-ok

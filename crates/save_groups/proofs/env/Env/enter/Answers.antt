@@ -1,9 +1,9 @@
 -- There is room for 255 groups.
-use Rattle.std.proofs.Common.{◌≡◌, ◌≤◌, refl, sym, ap, ◌∙◌, length, arith, subst, List, ◌∷◌}
+use Rattle.std.proofs.Common.{◌≡◌, refl, sym, ap, ◌∙◌, length, arith, subst, List, ◌∷◌}
 use Rattle.std.proofs.lemmas.Bool.{false≢true}
 use Rattle.save_groups.specs.Entries.{at}
 use Rattle.save_groups.specs.Standing.{Mark}
-use Rattle.save_groups.specs.Kept.{AreKept, marks_of, mark_of}
+use Rattle.save_groups.specs.Kept.{AreKept, marks_of}
 use Rattle.save_groups.proofs.Keeping.{kept-entered}
 use Rattle.save_groups.proofs.Marks.{length-copies, marks-push, marks-entered}
 use Rattle.save_groups.proofs.Stores.{mark_at}

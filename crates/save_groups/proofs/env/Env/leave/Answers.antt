@@ -1,5 +1,5 @@
 -- What the saves of the group undo is the environment outside it.
-use Rattle.std.proofs.Common.{◌≡◌, ◌≤◌, refl, sym, ap, ◌∙◌, length, arith, List}
+use Rattle.std.proofs.Common.{ap, ◌∙◌, arith}
 use Rattle.save_groups.specs.Entries.{at}
 use Rattle.save_groups.specs.Kept.{mark_of, marks_of}
 use Rattle.save_groups.proofs.Marks.{marks-push}

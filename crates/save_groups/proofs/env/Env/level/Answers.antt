@@ -1,6 +1,6 @@
 -- There is one environment more than open groups.
 use Rattle.std.proofs.Common.{arith}
-use Rattle.save_groups.proofs.Marks.{length-copies, copies-waiting, kept-waiting, set_last, kept_last, marks-push}
+use Rattle.save_groups.proofs.Marks.{length-copies}
 use Rattle.save_groups.proofs.env.Env.level.Goals as goal
 
 pub returns : goal.returns
