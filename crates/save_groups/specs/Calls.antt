@@ -1,12 +1,13 @@
 -- Lists of calls on the environments, of which some may have been refused: the environments are those that the
 -- accepted calls make, one after another.
-use Rattle.std.specs.Prelude.{◌≡◌, ℕ, ◌+◌, ◌≤◌, Bool, List, [], ◌∷◌, length, if◌then◌else◌}
+use Rattle.std.specs.Prelude.{◌≡◌, ◌⊎◌, ℕ, ◌+◌, ◌≤◌, Bool, List, [], ◌∷◌, length, if◌then◌else◌}
 use Rattle.tokens.specs.declared.token.Token.{Token}
 use Rattle.save_groups.specs.declared.key.Key.{Key}
 use Rattle.save_groups.specs.declared.key.Scope.{Scope}
 use Rattle.save_groups.specs.declared.key.Scope.TheVariants.{Global}
 use Rattle.save_groups.specs.declared.value.Value.{Value}
-use Rattle.save_groups.specs.Environments.{Copies, beginning, entered, left, with_after}
+use Rattle.save_groups.specs.declared.entry.Entry.{Entry}
+use Rattle.save_groups.specs.Environments.{Environment, Copies, environments, beginning, entered, left, with_after}
 use Rattle.save_groups.specs.Assignment.{assigned}
 use Rattle.save_groups.specs.Standing.{Store, copies_of}
 
@@ -51,3 +52,17 @@ CallsLaw = (extended : Bool) (s t : Store) (attempts : List Attempt) → copies_
 abbrev pub SavesLaw : Type 0
 SavesLaw = (key : Key) (value : Value) (scope : Scope) (c : Copies) →
     (length (assigned key value scope c).saves ≤ length c.saves + 1) × (scope ≡ Global → (assigned key value scope c).saves ≡ c.saves)
+
+-- in each environment an entry belongs to its own group, or is what it is in the environment outside. So where its
+-- level is that of an outer group, all environments from there on hold this very entry
+abbrev pub IsOutside : Key → Entry Value → List Environment → Type 0
+IsOutside key entry [] = ⊥
+IsOutside key entry (env ∷ outer) = env key ≡ entry
+
+abbrev pub AreNested : List Environment → Type 0
+AreNested [] = Unit {0}
+AreNested (env ∷ outer) = ((key : Key) → ((env key).level ≡ length outer + 1) ⊎ IsOutside key (env key) outer) × AreNested outer
+
+-- whatever is called on new environments, they are nested so
+abbrev pub LevelsLaw : Type 0
+LevelsLaw = (extended : Bool) (attempts : List Attempt) → AreNested (environments (after_attempts attempts (beginning extended)))

@@ -1,5 +1,5 @@
 //! Laws of the environments, over any list of calls.
-ghost use Rattle.save_groups.specs.Calls.{CallsLaw, SavesLaw};
+ghost use Rattle.save_groups.specs.Calls.{CallsLaw, SavesLaw, LevelsLaw};
 
 /// What the calls on new environments make of them is what the accepted ones make, one after another. A call
 /// that was refused is left out.
@@ -10,4 +10,9 @@ pub fn calls_law()
 /// How many saves an assignment makes: one at most, and none where it is global.
 pub fn saves_law()
     ensures law { SavesLaw }
+{}
+
+/// How environments stand in one another: an entry belongs to its own group, or is what it is outside.
+pub fn levels_law()
+    ensures law { LevelsLaw }
 {}

@@ -6,7 +6,7 @@ pub use entry::Entry;
 pub use env::Env;
 pub use group::Left;
 pub use key::{Key, Scope};
-pub use laws::{calls_law, saves_law};
+pub use laws::{calls_law, levels_law, saves_law};
 pub use save::Save;
 pub use value::Value;
 
