@@ -21,4 +21,6 @@ pub mod parameters;
 mod save;
 mod start;
 mod table;
+#[cfg(test)]
+mod tests;
 mod value;
