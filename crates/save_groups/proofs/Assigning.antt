@@ -7,13 +7,13 @@ use Rattle.save_groups.specs.declared.key.Key.{Key}
 use Rattle.save_groups.specs.declared.value.Value.{Value}
 use Rattle.save_groups.specs.declared.entry.Entry.{Entry}
 use Rattle.save_groups.specs.declared.save.Save.{Save}
-use Rattle.save_groups.specs.Environments.{Environment, updated, Copies}
-use Rattle.save_groups.specs.Assignment.{assigned_here, assigned_globally, assigned_locally, changes_nothing}
+use Rattle.save_groups.specs.Environments.{Environment, updated, Copies, level_of}
+use Rattle.save_groups.specs.Assignment.{needs_save, assigned_here, assigned_globally, assigned_locally, changes_nothing}
 use Rattle.save_groups.specs.Entries.{Entries, at}
 use Rattle.save_groups.specs.Standing.{Store, Mark, copies_of}
 use Rattle.save_groups.specs.Kept.{AreKept}
 use Rattle.save_groups.proofs.Keeping.{kept-outermost, kept-again, kept-saving}
-use Rattle.save_groups.proofs.Stores.{copies_with, copies-global, copies-outermost, copies-again, copies-saving}
+use Rattle.save_groups.proofs.Stores.{copies_with, length-groups_of, copies-global, copies-outermost, copies-again, copies-saving}
 
 -- one way or the other
 pub either : {T E A B C : Type 0} (r : Result T E) → OnOk r A → OnErr r B → (A → C) → (B → C) → C
@@ -32,6 +32,22 @@ is_again outer level stands test number = by_test (nat_lt 1 level) (stands == le
     by_test b true in_group same h = eqb-true stands level same
     by_test true false in_group same h = absurd (false≢true (sym h))
     by_test false false in_group same h = absurd (false≢true in_group)
+
+-- the test of a save, asked of the store
+pub level-stored : (s now : Store) (level : ℕ) → s ≡ now → level ≡ level_of (copies_of now) → level ≡ length s.groups + 1
+unfolding copies_of
+level-stored s now level view number =
+    let P : Store → Type 0 = λ t. level ≡ level_of (copies_of t) in
+    subst P (sym view) number ∙ ap (λ n. n + 1) (length-groups_of s.groups s.saves (at s.entries))
+
+pub test-stored : (s now : Store) (key : Key) (level : ℕ) (b : Bool) → s ≡ now → level ≡ level_of (copies_of now) → b ≡ needs_save key (copies_of now)
+    → (nat_lt 1 level && not ((at s.entries key).level == level)) ≡ b
+unfolding copies_of
+test-stored s now key level b view number test =
+    let P : Store → Type 0 = λ t. (nat_lt 1 level && not (((copies_of t).last key).level == level)) ≡ b in
+    let there : (nat_lt 1 level && not (((copies_of now).last key).level == level)) ≡ b =
+    ap (λ n. nat_lt 1 n && not (((copies_of now).last key).level == n)) number ∙ sym test in
+    subst P (sym view) there
 
 -- a global assignment
 pub store-global : (s now : Store) (f : Entries) (key : Key) (value : Value) → s ≡ now

@@ -10,11 +10,15 @@ use Rattle.save_groups.specs.declared.save.Save.{Save}
 use Rattle.save_groups.specs.Values.{same_value}
 use Rattle.save_groups.specs.Environments.{updated, OpenGroup, Copies, level_of}
 
--- the save that a local assignment makes: none outside all groups, and none where the entry was assigned in this
--- group already; else what stood there
+-- whether a local assignment saves what stands in an entry: not outside all groups, and not where the entry was
+-- assigned in this group already
+abbrev pub needs_save : Key → Copies → Bool
+needs_save key c = nat_lt 1 (level_of c) && not ((c.last key).level == level_of c)
+
+-- the save that a local assignment makes: the pair that stood there, with the number of environments
 abbrev pub saves_made : Key → Copies → List Save
 saves_made key c =
-    if nat_lt 1 (level_of c) && not ((c.last key).level == level_of c)
+    if needs_save key c
     then record { key = key; group = level_of c; level = (c.last key).level; value = (c.last key).value } ∷ []
     else []
 

@@ -11,7 +11,7 @@ ghost use Rattle.tokens.specs.declared.cap.Cap.TheVariants.{Groups};
 ghost use Rattle.save_groups.specs.Keys.{is_key, holds_number, holds_glue, holds_tokens, holds_meaning};
 ghost use Rattle.save_groups.specs.Values.{fits};
 ghost use Rattle.save_groups.specs.Environments.{beginning, updated, entered, left, innermost, told_of, with_after, level_of, kind_of};
-ghost use Rattle.save_groups.specs.Assignment.{assigned, changes_nothing, assigned_locally, assigned_globally, assigned_here};
+ghost use Rattle.save_groups.specs.Assignment.{assigned, changes_nothing, needs_save, assigned_locally, assigned_globally, assigned_here};
 ghost use Rattle.save_groups.specs.Standing.{copies_of, undone, restored};
 ghost use Rattle.save_groups.specs.Entries.{at, has_room};
 ghost use Rattle.save_groups.specs.Kept.{can_return, marks_of, waiting};
@@ -216,7 +216,7 @@ impl Env {
         ensures ok { OnOk result (copies_of self.new ≡ assigned_globally key value (copies_of self.old)) }
         ensures err { OnErr result (copies_of self.new ≡ copies_of self.old) }
     {
-        change(&mut self.current, key, value, 1)
+        change(&mut self.current, key, value, GLOBAL_LEVEL)
     }
 
     fn assign_locally(&mut self, key: Key, value: Value) -> Result<(), AllocError>
@@ -240,20 +240,29 @@ impl Env {
         self.extended && self.current.is_same(key, value)
     }
 
-    /// A local assignment that changes the entry, whatever value stands there. It saves that where the entry
-    /// wasn't assigned in this group yet.
+    /// A local assignment that changes the entry, whatever value stands there. It saves that where it needs to.
     fn assign_here(&mut self, key: Key, value: Value) -> Result<(), AllocError>
         requires key { IsTrue (is_key (copies_of self.old).extended key) }
         requires kind { IsTrue (fits key value) }
         ensures ok { OnOk result (copies_of self.new ≡ assigned_here key value (copies_of self.old)) }
         ensures err { OnErr result (copies_of self.new ≡ copies_of self.old) }
     {
-        let level = self.groups.len() as u16 + 1;
-        if needs_save(level, self.current.level(key)) {
+        let level = self.level();
+        if self.needs_save(key) {
             save_and_change(&mut self.current, &mut self.saves, key, value, level)
         } else {
             change(&mut self.current, key, value, level)
         }
+    }
+
+    /// Whether a local assignment saves what stands in an entry: not outside all groups, and not where the entry
+    /// was assigned in this group already.
+    fn needs_save(&self, key: Key) -> bool
+        requires { IsTrue (is_key (copies_of self.now).extended key) }
+        ensures { result ≡ needs_save key (copies_of self.now) }
+    {
+        let level = self.level();
+        level > 1 && self.current.level(key) != level
     }
 
     /// Lets a token wait for the end of the innermost group.
@@ -277,13 +286,6 @@ fn wait(groups: &mut Vec<Group>, token: Token) -> Result<(), AllocError>
     let last = groups.len() - 1;
     groups[last].after.push(token)?;
     Ok(())
-}
-
-/// Whether a local assignment in the group of this level saves an entry of this level.
-fn needs_save(level: u16, entry: u16) -> bool
-    ensures { result ≡ (nat_lt 1 level && not (entry == level)) }
-{
-    level > 1 && entry != level
 }
 
 /// Puts a value into an entry, which the tables are made to reach.
@@ -366,7 +368,15 @@ fn put_back(current: &mut Current, save: Save)
         value,
         ..
     } = save;
-    if current.level(key) != GLOBAL_LEVEL {
+    if !is_global(current, key) {
         let _replaced = current.replace(key, Entry { value, level });
     }
+}
+
+/// Whether an entry has the level of a global assignment.
+fn is_global(current: &Current, key: Key) -> bool
+    requires { IsTrue (is_key true key) }
+    ensures { result ≡ ((at current.now key).level == 1) }
+{
+    current.level(key) == GLOBAL_LEVEL
 }
