@@ -1,5 +1,5 @@
 -- By the list of calls, and the kind of each.
-use Rattle.std.proofs.Common.{◌≡◌, ℕ, ◌+◌, List, [], ◌∷◌, length, Bool, true, false, refl, ap, sym, ◌∙◌, arith, inl, inr, subst}
+use Rattle.std.proofs.Common.{◌≡◌, ◌+◌, List, [], ◌∷◌, length, Bool, true, false, refl, ap, sym, ◌∙◌, arith, inl, inr, subst}
 use Rattle.std.proofs.lemmas.List.{length-map}
 use Rattle.tokens.specs.declared.token.Token.{Token}
 use Rattle.std.specs.Prelude.{◌⊎◌, map, if◌then◌else◌}
