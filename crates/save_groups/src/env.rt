@@ -2,7 +2,7 @@
 //! `tex.web`, part 19).
 #![tactic(auto, unfolding(crate::specs::Standing::copies_of))]
 
-ghost use Rattle.std.specs.Prelude.{◌≡◌, ◌==◌, ◌&&◌, not, nat_lt, ◌++◌, ◌∷◌, [], true, ℕ, pos, IsTrue, IsSome, IsErr, IfOk, IfErr, OnOk, OnErr, Some, length, vec_len, vec_capacity, take, drop, slice_get, ◌<◌, ◌≤◌, ◌↔◌};
+ghost use Rattle.std.specs.Prelude.{◌≡◌, ◌==◌, ◌++◌, ◌∷◌, [], true, ℕ, pos, IsTrue, IsSome, IsErr, IfOk, IfErr, OnOk, OnErr, Some, length, vec_len, vec_capacity, take, drop, slice_get, ◌<◌, ◌≤◌, ◌↔◌};
 ghost use Rattle.std.specs.Option.{option_copied, option_map};
 ghost use Rattle.std.specs.List.{list_all};
 ghost use Rattle.tokens.specs.Categories.{category};

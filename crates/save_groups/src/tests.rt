@@ -3,6 +3,7 @@
 ghost use Rattle.std.specs.Prelude.{◌≡◌, ◌<◌, ℤ, false, IsTrue};
 ghost use Rattle.save_groups.specs.Keys.{is_key, holds_number, holds_glue, holds_tokens, holds_meaning};
 ghost use Rattle.save_groups.specs.Values.{fits};
+ghost use Rattle.save_groups.specs.declared.key.Key.{Key};
 ghost use Rattle.save_groups.specs.declared.value.Value.TheVariants as kind;
 
 use super::*;
@@ -176,12 +177,27 @@ fn is_number(value: &Value, number: i32) -> bool {
     }
 }
 
-/// Some numbers that both modes have.
+/// Some numbers that both modes have. The codes are those of a capital letter.
 #[derive(Clone, Copy)]
 enum Place {
     Count,
     Dimen,
+    Integer,
+    Dimension,
+    LowerCase,
+    UpperCase,
+    SpaceFactor,
+    MathCode,
+    Delimiter,
     Font,
+    Family,
+}
+
+/// The code of a capital letter.
+fn code_key(table: u8) -> Key
+    ensures { result ≡ Key.Code table 65 }
+{
+    Key::Code { table, byte: b'A' }
 }
 
 fn key_of(place: Place) -> Key
@@ -192,7 +208,15 @@ fn key_of(place: Place) -> Key
     match place {
         Place::Count => COUNT,
         Place::Dimen => DIMEN,
+        Place::Integer => Key::Parameter(TOLERANCE),
+        Place::Dimension => Key::Parameter(FIRST_DIMENSION),
+        Place::LowerCase => code_key(LOWER_CASE),
+        Place::UpperCase => code_key(UPPER_CASE),
+        Place::SpaceFactor => code_key(SPACE_FACTOR),
+        Place::MathCode => code_key(MATH_CODE),
+        Place::Delimiter => code_key(DELIMITER),
         Place::Font => Key::CurrentFont,
+        Place::Family => Key::Family { size: 1, number: 2 },
     }
 }
 
@@ -612,18 +636,28 @@ const RELAX: Token = Token::Name(NameId(210));
 
 const TILDE: Token = Token::Active(b'~');
 
+/// A group with a token of its own.
+fn group_inside<L: Ledger>(rt: &impl Abort, groups: &mut Groups<L>) -> Result<(), Fail> {
+    groups.env.enter(SEMI_SIMPLE, 19)?;
+    wait_all(rt, groups, &[TILDE])?;
+    end_with(rt, groups, SEMI_SIMPLE, 19, &[TILDE])
+}
+
+/// A group with tokens before and behind one inside.
+fn group_outside<L: Ledger>(rt: &impl Abort, groups: &mut Groups<L>) -> Result<(), Fail> {
+    groups.env.enter(1, 17)?;
+    wait_all(rt, groups, &[RELAX, LETTER])?;
+    group_inside(rt, groups)?;
+    wait_all(rt, groups, &[TILDE, RELAX])
+}
+
 fn waiting<L: Ledger>(rt: &impl Abort, alloc: Global, blank: Blank) -> Result<(), Fail>
     requires name { blank.name ≡ L.name }
     requires parts { blank.parts ≡ L.parts }
     requires some { 0 < L.parts }
 {
     let mut groups = Groups::<L>::new(alloc, true, blank)?;
-    groups.env.enter(1, 17)?;
-    wait_all(rt, &mut groups, &[RELAX, LETTER])?;
-    groups.env.enter(SEMI_SIMPLE, 19)?;
-    wait_all(rt, &mut groups, &[TILDE])?;
-    end_with(rt, &mut groups, SEMI_SIMPLE, 19, &[TILDE])?;
-    wait_all(rt, &mut groups, &[TILDE, RELAX])?;
+    group_outside(rt, &mut groups)?;
     end_with(rt, &mut groups, 1, 17, &[RELAX, LETTER, TILDE, RELAX])?;
     assert_eq!(rt; groups.env.group_kind(), 0);
     Ok(())
@@ -671,6 +705,17 @@ fn end_all<L: Ledger>(groups: &mut Groups<L>) -> Result<(), Fail> {
     Ok(())
 }
 
+/// With all groups open, one more is refused, also where one ended and another began in its place.
+fn at_the_limit<L: Ledger>(rt: &impl Abort, groups: &mut Groups<L>) -> Result<(), Fail> {
+    begin_beyond(rt, groups);
+    assert_eq!(rt; number(&groups.env, COUNT), 7);
+    end_with(rt, groups, 1, 254, &[])?;
+    assert_eq!(rt; number(&groups.env, COUNT), 0);
+    groups.begin()?;
+    begin_beyond(rt, groups);
+    Ok(())
+}
+
 fn many_groups<L: Ledger>(rt: &impl Abort, alloc: Global, blank: Blank) -> Result<(), Fail>
     requires name { blank.name ≡ L.name }
     requires parts { blank.parts ≡ L.parts }
@@ -678,12 +723,7 @@ fn many_groups<L: Ledger>(rt: &impl Abort, alloc: Global, blank: Blank) -> Resul
 {
     let mut groups = Groups::<L>::new(alloc, true, blank)?;
     begin_all(&mut groups)?;
-    begin_beyond(rt, &mut groups);
-    assert_eq!(rt; number(&groups.env, COUNT), 7);
-    end_with(rt, &mut groups, 1, 254, &[])?;
-    assert_eq!(rt; number(&groups.env, COUNT), 0);
-    groups.begin()?;
-    begin_beyond(rt, &mut groups);
+    at_the_limit(rt, &mut groups)?;
     end_all(&mut groups)?;
     assert_eq!(rt; groups.env.level(), 1);
     Ok(())
@@ -903,78 +943,56 @@ fn meaning_in_group<L: Ledger>(
     Ok(())
 }
 
+/// Values that aren't those of the start.
+const NUMBERS: &[(Place, i32)] = &[
+    (Place::Count, -1),
+    (Place::Dimen, 65_536),
+    (Place::Integer, 200),
+    (Place::Dimension, -7),
+    (Place::LowerCase, 1),
+    (Place::UpperCase, 2),
+    (Place::SpaceFactor, 3),
+    (Place::MathCode, 4),
+    (Place::Delimiter, 5),
+    (Place::Font, 3),
+    (Place::Family, 4),
+];
+
 fn numbers_in_groups<L: Ledger>(rt: &impl Abort, alloc: Global, blank: Blank) -> Result<(), Fail>
     requires name { blank.name ≡ L.name }
     requires parts { blank.parts ≡ L.parts }
     requires some { 0 < L.parts }
 {
     let mut groups = Groups::<L>::new(alloc, true, blank)?;
-    number_in_group(rt, &mut groups, COUNT, -1)?;
-    number_in_group(rt, &mut groups, DIMEN, 65536)?;
-    number_in_group(rt, &mut groups, Key::Parameter(TOLERANCE), 200)?;
-    number_in_group(rt, &mut groups, Key::Parameter(FIRST_DIMENSION), -7)?;
-    number_in_group(
-        rt,
-        &mut groups,
-        Key::Code {
-            table: CATEGORY,
-            byte: b'A',
-        },
-        13,
-    )?;
-    number_in_group(
-        rt,
-        &mut groups,
-        Key::Code {
-            table: LOWER_CASE,
-            byte: b'A',
-        },
-        1,
-    )?;
-    number_in_group(
-        rt,
-        &mut groups,
-        Key::Code {
-            table: UPPER_CASE,
-            byte: b'A',
-        },
-        2,
-    )?;
-    number_in_group(
-        rt,
-        &mut groups,
-        Key::Code {
-            table: SPACE_FACTOR,
-            byte: b'A',
-        },
-        3,
-    )?;
-    number_in_group(
-        rt,
-        &mut groups,
-        Key::Code {
-            table: MATH_CODE,
-            byte: b'A',
-        },
-        4,
-    )?;
-    number_in_group(
-        rt,
-        &mut groups,
-        Key::Code {
-            table: DELIMITER,
-            byte: b'A',
-        },
-        5,
-    )?;
-    number_in_group(rt, &mut groups, Key::CurrentFont, 3)?;
-    number_in_group(rt, &mut groups, Key::Family { size: 1, number: 2 }, 4)?;
-    Ok(())
+    for (place, value) in NUMBERS {
+        number_in_group(rt, &mut groups, key_of(*place), *value)?;
+    }
+    number_in_group(rt, &mut groups, code_key(CATEGORY), 13)
 }
 
 #[test]
 fn each_number_ends_with_its_group(rt: HostRuntime) -> Result<(), Fail> {
     numbers_in_groups::<Brand>(&rt, rt.alloc(), Blank::new(1))
+}
+
+fn glues_in_groups<L: Ledger>(rt: &impl Abort, groups: &mut Groups<L>) -> Result<(), Fail> {
+    glue_in_group(rt, groups, SKIP)?;
+    glue_in_group(rt, groups, MUSKIP)?;
+    glue_in_group(rt, groups, Key::Parameter(FIRST_GLUE))
+}
+
+fn lists_in_groups<L: Ledger>(
+    rt: &impl Abort,
+    alloc: Global,
+    groups: &mut Groups<L>,
+) -> Result<(), Fail> {
+    tokens_in_group(rt, alloc, groups, TOKS)?;
+    tokens_in_group(rt, alloc, groups, Key::Parameter(FIRST_TOKENS))
+}
+
+fn meanings_in_groups<L: Ledger>(rt: &impl Abort, groups: &mut Groups<L>) -> Result<(), Fail> {
+    meaning_in_group(rt, groups, NAME)?;
+    meaning_in_group(rt, groups, Key::Active(b'~'))
 }
 
 fn others_in_groups<L: Ledger>(rt: &impl Abort, alloc: Global, blank: Blank) -> Result<(), Fail>
@@ -983,14 +1001,9 @@ fn others_in_groups<L: Ledger>(rt: &impl Abort, alloc: Global, blank: Blank) -> 
     requires some { 0 < L.parts }
 {
     let mut groups = Groups::<L>::new(alloc, true, blank)?;
-    glue_in_group(rt, &mut groups, SKIP)?;
-    glue_in_group(rt, &mut groups, MUSKIP)?;
-    glue_in_group(rt, &mut groups, Key::Parameter(FIRST_GLUE))?;
-    tokens_in_group(rt, alloc, &mut groups, TOKS)?;
-    tokens_in_group(rt, alloc, &mut groups, Key::Parameter(FIRST_TOKENS))?;
-    meaning_in_group(rt, &mut groups, NAME)?;
-    meaning_in_group(rt, &mut groups, Key::Active(b'~'))?;
-    Ok(())
+    glues_in_groups(rt, &mut groups)?;
+    lists_in_groups(rt, alloc, &mut groups)?;
+    meanings_in_groups(rt, &mut groups)
 }
 
 #[test]
