@@ -1,7 +1,7 @@
 //! Decimal fractions, digits behind a decimal point, read as a number of sp: `tex.web`, section 102; The
 //! TeXbook, chapter 10.
 
-ghost use Rattle.std.specs.Prelude.{◌≡◌, ◌+◌, ◌*◌, ◌^◌, ◌<◌, ◌≤◌, pos, ◌≤ℤ◌, length};
+ghost use Rattle.std.specs.Prelude.{◌≡◌, ◌+◌, ◌*◌, ◌/◌, ◌^◌, ◌<◌, ◌≤◌, pos, ◌≤ℤ◌, length};
 ghost use Rattle.scaled.specs.ArithmeticQuotients.{IsNearest};
 ghost use Rattle.scaled.specs.ArithmeticDecimals.{AllAreDigits, number_of, fraction_of_digits};
 
@@ -19,5 +19,13 @@ pub fn round_decimals(digits: &[u8]) -> i32
     for i in (0..digits.len()).rev() {
         doubled = (doubled + 131_072 * u32::from(digits[i])) / 10;
     }
-    ((doubled + 1) / 2) as i32
+    halved(doubled) as i32
+}
+
+// Half of a number, a half counting up.
+fn halved(doubled: u32) -> u32
+    requires small { doubled < 131072 }
+    ensures value { result ≡ (doubled + 1) / 2 }
+{
+    (doubled + 1) / 2
 }

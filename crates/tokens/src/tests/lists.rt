@@ -51,6 +51,15 @@ fn shared_lists_are_equal(rt: HostRuntime) -> Result<(), Fail> {
 }
 
 #[test]
+fn a_list_of_20_000_tokens(rt: HostRuntime) -> Result<(), Fail> {
+    let tokens = [Token::Arg(1); 20_000];
+    let list = TokenList::from_slice(rt.alloc(), &tokens)?;
+    assert_eq!(rt; list.as_slice().len(), 20_000);
+    assert!(rt; list.is_same(&list.share()?));
+    Ok(())
+}
+
+#[test]
 fn macros_differ_by_flags_and_texts(rt: HostRuntime) -> Result<(), Fail> {
     let alloc = rt.alloc();
     let long = Macro {

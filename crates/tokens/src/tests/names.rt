@@ -34,3 +34,16 @@ fn ids_stay_while_the_table_grows(rt: HostRuntime) -> Result<(), Fail> {
     assert_eq!(rt; names.len(), 5000);
     Ok(())
 }
+
+#[test]
+fn a_name_of_sixty_letters(rt: HostRuntime) -> Result<(), Fail> {
+    let mut names = NameTable::new(rt.alloc());
+    let long = [b'x'; 60];
+    assert_eq!(rt; names.intern(&long)?.0, 0);
+    assert_eq!(rt; names.intern(&long[1..])?.0, 1);
+    let again = names.intern(&long)?;
+    assert_eq!(rt; again.0, 0);
+    assert!(rt; again.0 < names.len());
+    assert_eq!(rt; names.text(again), long.as_slice());
+    Ok(())
+}
