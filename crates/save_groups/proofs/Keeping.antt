@@ -1,6 +1,6 @@
 -- What the store of environments keeps stays, whatever is done.
-use Rattle.std.proofs.Common.{◌≡◌, ◌≢◌, ℕ, ◌+◌, ◌≤◌, List, [], ◌∷◌, ◌++◌, length, take, drop, Bool, true, false, refl, ap, sym, ◌∙◌, subst, arith, length-append}
-use Rattle.std.specs.Prelude.{◌==◌, ◌||◌, not, nat_le, filter, if◌then◌else◌, IsTrue}
+use Rattle.std.proofs.Common.{◌≡◌, ◌≢◌, ℕ, ◌+◌, ◌≤◌, inl, inr, List, [], ◌∷◌, ◌++◌, length, take, drop, Bool, true, false, refl, ap, sym, ◌∙◌, subst, arith, length-append}
+use Rattle.std.specs.Prelude.{◌⊎◌, ◌==◌, ◌||◌, not, nat_le, filter, if◌then◌else◌, IsTrue}
 use Rattle.std.specs.List.{list_all}
 use Rattle.std.proofs.lemmas.Bool.{and_from, and_parts, eq-eqb, eqb-true, ne_eqb, false≢true, leb-true, le-leb}
 use Rattle.std.proofs.lemmas.List.Folds.{list_all-append, list_any-append}
@@ -44,6 +44,7 @@ kept-entered mark marks saves env first h =
         first = omega (arith, first);
         levels = λ key. omega (arith, kept-levels marks saves env h key);
         saved = λ key level. absurd (omega (arith, level, kept-levels marks saves env h key));
+        owned = λ key saved. absurd (false≢true (ap (is_saved key) (sym nothing) ∙ saved));
         numbered = subst R (sym nothing) refl;
       },
       subst Q (sym all) (subst P (sym nothing) h),
@@ -60,6 +61,7 @@ kept-global (mark ∷ outer) saves env key x one h =
         levels = λ other. changed_level (λ n. n ≤ length outer + 1 + 1) key x env other (λ same. omega (arith, one)) (λ differ. h.0.levels other);
         saved = λ other. changed_level (λ n. n ≡ length outer + 1 + 1 → IsTrue (is_saved other (drop mark.first saves))) key x env other
             (λ same level. absurd (omega (arith, one, level))) (λ differ level. h.0.saved other level);
+        owned = λ other saved. changed_level (λ n. (n ≡ length outer + 1 + 1) ⊎ (n ≡ 1)) key x env other (λ same. inr one) (λ differ. h.0.owned other saved);
         numbered = h.0.numbered;
       },
       subst P (sym (undone-global (drop mark.first saves) key x env one))
@@ -82,6 +84,7 @@ kept-again mark outer saves env key x new old h =
         saved = λ other. changed_level (λ n. n ≡ length outer + 1 + 1 → IsTrue (is_saved other (drop mark.first saves))) key x env other
             (λ same level. (let Q : Key → Type 0 = λ k. IsTrue (is_saved k (drop mark.first saves)) in subst Q (same_key-equal key other same) there))
             (λ differ level. h.0.saved other level);
+        owned = λ other saved. changed_level (λ n. (n ≡ length outer + 1 + 1) ⊎ (n ≡ 1)) key x env other (λ same. inl new) (λ differ. h.0.owned other saved);
         numbered = h.0.numbered;
       },
       subst P (sym (undone-saved (drop mark.first saves) key x env there (λ e. absurd (omega (arith, e, new))) (λ e. absurd (omega (arith, e, old))))) h.1,
@@ -95,6 +98,11 @@ or_right false c h = h
 or_left : (b c : Bool) → b ≡ true → (b || c) ≡ true
 or_left true c h = refl
 or_left false c h = absurd (false≢true h)
+
+or_first : (b c : Bool) → (b || (c || false)) ≡ true → c ≡ false → b ≡ true
+or_first true c h differ = refl
+or_first false true h differ = absurd (false≢true (sym differ))
+or_first false false h differ = absurd (false≢true h)
 
 pub undone-more : (saves : List Save) (first : ℕ) (save : Save) (x : Entry Value) (env : Environment) → first ≤ length saves
     → env save.key ≡ record { value = save.value; level = save.level } → x.level ≢ 1
@@ -124,6 +132,9 @@ kept-saving mark outer saves env save x new number made h =
             ∙ or_right (is_saved other (drop mark.first saves)) _ (or_left (same_key save.key other) false same)))
             (λ differ level. more other true (list_any-append (λ s. same_key s.key other) (drop mark.first saves) (save ∷ [])
             ∙ or_left (is_saved other (drop mark.first saves)) _ (h.0.saved other level)));
+        owned = λ other saved. changed_level (λ n. (n ≡ length outer + 1 + 1) ⊎ (n ≡ 1)) save.key x env other (λ same. inl new)
+            (λ differ. h.0.owned other (or_first (is_saved other (drop mark.first saves)) (same_key save.key other)
+            (sym (list_any-append (λ s. same_key s.key other) (drop mark.first saves) (save ∷ [])) ∙ sym (ap (is_saved other) split) ∙ saved) differ));
         numbered = ap (list_all (λ s. s.group == length outer + 1 + 1)) split
             ∙ list_all-append (λ s. s.group == length outer + 1 + 1) (drop mark.first saves) (save ∷ [])
             ∙ and_from _ _ h.0.numbered (and_from _ _ (eq-eqb _ _ number) refl);

@@ -7,3 +7,4 @@ pub mod Stores
 pub mod Marks
 pub mod Steps
 pub mod Assigning
+pub mod Modes

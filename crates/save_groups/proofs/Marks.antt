@@ -47,7 +47,7 @@ kept_last (x ∷ y ∷ ys) group (suc n) e h = ap (λ zs. x ∷ zs) (kept_last (
 pub kept-waiting : (token : Token) (marks : List Mark) (saves : List Save) (env : Environment) → AreKept marks saves env → AreKept (waiting token marks) saves env
 kept-waiting token [] saves env h = h
 kept-waiting token (mark ∷ outer) saves env h =
-    (record { first = h.0.first; levels = h.0.levels; saved = h.0.saved; numbered = h.0.numbered }, h.1)
+    (record { first = h.0.first; levels = h.0.levels; saved = h.0.saved; owned = h.0.owned; numbered = h.0.numbered }, h.1)
 
 pub copies-waiting : (token : Token) (s : Store) → IsSome (innermost (copies_of s)) → copies_of (record s { groups = waiting token s.groups }) ≡ with_after token (copies_of s)
 unfolding copies_of

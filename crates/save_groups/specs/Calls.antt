@@ -1,52 +1,103 @@
--- Lists of calls on the environments, of which some may have been refused: the environments are those that the
--- accepted calls make, one after another.
-use Rattle.std.specs.Prelude.{◌≡◌, ◌⊎◌, ℕ, ◌+◌, ◌≤◌, Bool, List, [], ◌∷◌, length, if◌then◌else◌}
-use Rattle.tokens.specs.declared.token.Token.{Token}
+-- Lists of calls on the environments with their answers, of which some may be refusals: the environments are those
+-- that the accepted calls make, one after another, and each answer is what the definitions tell of them.
+use Rattle.std.specs.Prelude.{◌≡◌, ◌⊎◌, ◌+◌, ◌<◌, ◌≤◌, Bool, false, List, [], ◌∷◌, ◌++◌, length, Option, None, IsSome, IsTrue, Result, Ok, Err}
+use Rattle.std.specs.Option.{option_map}
+use Rattle.std.specs.List.{list_any}
+use Rattle.tokens.specs.declared.stop.Stop.{Stop}
+use Rattle.tokens.specs.declared.stop.Stop.TheVariants.{Capacity, OutOfMemory}
+use Rattle.tokens.specs.declared.cap.Cap.TheVariants.{Groups}
+use Rattle.save_groups.specs.declared.call.Call.{Call}
+use Rattle.save_groups.specs.declared.call.Call.TheVariants.{Assign, Enter, Leave, AfterGroup}
+use Rattle.save_groups.specs.declared.group.Left.{Left}
 use Rattle.save_groups.specs.declared.key.Key.{Key}
 use Rattle.save_groups.specs.declared.key.Scope.{Scope}
 use Rattle.save_groups.specs.declared.key.Scope.TheVariants.{Global}
 use Rattle.save_groups.specs.declared.value.Value.{Value}
 use Rattle.save_groups.specs.declared.entry.Entry.{Entry}
-use Rattle.save_groups.specs.Environments.{Environment, Copies, environments, beginning, entered, left, with_after}
+use Rattle.save_groups.specs.Keys.{same_key, is_key}
+use Rattle.save_groups.specs.Values.{fits, is_in_mode}
+use Rattle.save_groups.specs.Environments.{Environment, Copies, environments, start_environment, beginning, entered, left, innermost, told_of, with_after}
 use Rattle.save_groups.specs.Assignment.{assigned}
 use Rattle.save_groups.specs.Standing.{Store, copies_of}
 
--- the calls that change something
-pub data Call : Type 0 where
-  assigning : Key → Value → Scope → Call
-  entering : ℕ → ℕ → Call
-  leaving : Call
-  waiting : Token → Call
-
--- a call, and whether it was refused
-pub record Attempt : Type 0 where
-  pub call : Call
-  pub refused : Bool
+-- what a caller has to see to
+abbrev pub IsAllowed : Call → Copies → Type 0
+IsAllowed (Assign key value scope) c =
+    IsTrue (is_key c.extended key) × IsTrue (fits key value) × IsTrue (is_in_mode c.extended value)
+IsAllowed (Enter kind line) c = Unit {0}
+IsAllowed Leave c = IsSome (innermost c)
+IsAllowed (AfterGroup token) c = IsSome (innermost c)
 
 -- what a call that isn't refused makes of the environments
 abbrev pub done : Call → Copies → Copies
-done (assigning key value scope) c = assigned key value scope c
-done (entering kind line) c = entered kind line c
-done leaving c = left c
-done (waiting token) c = with_after token c
+done (Assign key value scope) c = assigned key value scope c
+done (Enter kind line) c = entered kind line c
+done Leave c = left c
+done (AfterGroup token) c = with_after token c
 
--- a refused call is left out
+-- and what it tells
+abbrev pub told : Call → Copies → Option Left
+told (Assign key value scope) c = None
+told (Enter kind line) c = None
+told Leave c = option_map told_of (innermost c)
+told (AfterGroup token) c = None
+
+-- where a call can be accepted: a group can begin where fewer than 255 are open
+abbrev pub CanPass : Call → Copies → Type 0
+CanPass (Assign key value scope) c = Unit {0}
+CanPass (Enter kind line) c = length c.groups < 255
+CanPass Leave c = Unit {0}
+CanPass (AfterGroup token) c = Unit {0}
+
+-- how and where it can be refused: a group at the limit alone, leaving never, the others for want of memory
+abbrev pub IsRefusal : Call → Stop → Copies → Type 0
+IsRefusal (Assign key value scope) stop c = stop ≡ OutOfMemory
+IsRefusal (Enter kind line) stop c = (stop ≡ Capacity Groups) × (255 ≤ length c.groups)
+IsRefusal Leave stop c = ⊥
+IsRefusal (AfterGroup token) stop c = stop ≡ OutOfMemory
+
+-- what is told is what the definitions say
+abbrev pub IsExact : Call → Copies → Result (Option Left) Stop → Type 0
+IsExact call c (Ok tells) = (tells ≡ told call c) × CanPass call c
+IsExact call c (Err stop) = IsRefusal call stop c
+
+-- a refused call changes nothing
+abbrev pub attempted_by : Call → Result (Option Left) Stop → Copies → Copies
+attempted_by call (Ok tells) c = done call c
+attempted_by call (Err stop) c = c
+
+-- what a call answers, with the environments before and behind it
+abbrev pub Answers : Call → Copies → Result (Option Left) Stop → Copies → Type 0
+Answers call old answer new = IsExact call old answer × (new ≡ attempted_by call answer old)
+
+-- a call with its answer
+pub record Attempt : Type 0 where
+  pub call : Call
+  pub answer : Result (Option Left) Stop
+
 abbrev pub attempted : Attempt → Copies → Copies
-attempted attempt c = if attempt.refused then c else done attempt.call c
+attempted attempt c = attempted_by attempt.call attempt.answer c
 
 abbrev pub after_attempts : List Attempt → Copies → Copies
 after_attempts [] c = c
 after_attempts (attempt ∷ attempts) c = after_attempts attempts (attempted attempt c)
 
--- from one store to another by these calls, of which each did what its contract says
+-- from one store to another by these calls, which answered so: `make` shows that the calls of an `Env` do
 abbrev pub ComesTo : Store → List Attempt → Store → Type 0
 ComesTo s [] t = t ≡ s
-ComesTo s (attempt ∷ attempts) t = (next : Store) × (copies_of next ≡ attempted attempt (copies_of s)) × ComesTo next attempts t
+ComesTo s (attempt ∷ attempts) t =
+    (next : Store) × Answers attempt.call (copies_of s) attempt.answer (copies_of next) × ComesTo next attempts t
 
--- whatever is called on new environments, whichever calls are refused: they are those of the definition
+-- every answer is what the definitions say of the environments that the calls before it made
+abbrev pub AreExact : List Attempt → Copies → Type 0
+AreExact [] c = Unit {0}
+AreExact (attempt ∷ attempts) c = IsExact attempt.call c attempt.answer × AreExact attempts (attempted attempt c)
+
+-- whatever is called on new environments, whichever calls are refused: they are those of the definition, and so is
+-- each answer
 abbrev pub CallsLaw : Type 0
 CallsLaw = (extended : Bool) (s t : Store) (attempts : List Attempt) → copies_of s ≡ beginning extended → ComesTo s attempts t
-    → copies_of t ≡ after_attempts attempts (beginning extended)
+    → (copies_of t ≡ after_attempts attempts (beginning extended)) × AreExact attempts (beginning extended)
 
 -- an assignment makes one save at most, and a global one none
 abbrev pub SavesLaw : Type 0
@@ -66,3 +117,29 @@ AreNested (env ∷ outer) = ((key : Key) → ((env key).level ≡ length outer +
 -- whatever is called on new environments, they are nested so
 abbrev pub LevelsLaw : Type 0
 LevelsLaw = (extended : Bool) (attempts : List Attempt) → AreNested (environments (after_attempts attempts (beginning extended)))
+
+-- the keys that a call gives a value
+abbrev pub keys_of : Call → List Key
+keys_of (Assign key value scope) = key ∷ []
+keys_of (Enter kind line) = []
+keys_of Leave = []
+keys_of (AfterGroup token) = []
+
+abbrev pub given_by : Attempt → List Key
+given_by attempt = keys_of attempt.call
+
+-- those that some calls give one
+abbrev pub given : List Attempt → List Key
+given [] = []
+given (attempt ∷ attempts) = given_by attempt ++ given attempts
+
+-- all environments have an entry as it was at the start
+abbrev pub AreFresh : Bool → Key → List Environment → Type 0
+AreFresh extended key [] = Unit {0}
+AreFresh extended key (env ∷ outer) = (env key ≡ start_environment extended key) × AreFresh extended key outer
+
+-- an entry that no call gave a value is what it was at the start. So of each environment only finitely many entries
+-- have to be known
+abbrev pub GivenLaw : Type 0
+GivenLaw = (extended : Bool) (attempts : List Attempt) (key : Key) → list_any (λ k. same_key k key) (given attempts) ≡ false
+    → AreFresh extended key (environments (after_attempts attempts (beginning extended)))

@@ -100,31 +100,65 @@ category_of (negsuc n) = 0
 abbrev pub with_number : Key → Entry ℤ → Entries → Entries
 with_number (Register Count number) entry e = record e { counts = slice_set e.counts number entry }
 with_number (Register Dimen number) entry e = record e { dimens = slice_set e.dimens number entry }
+with_number (Register Skip number) entry e = e
+with_number (Register Muskip number) entry e = e
+with_number (Register Box number) entry e = e
+with_number (Register Toks number) entry e = e
 with_number (Parameter place) entry e = record e { number_parameters = slice_set e.number_parameters place entry }
 with_number (Code zero byte) entry e = record e {
   categories = slice_set e.categories byte (category_of entry.value);
   category_levels = slice_set e.category_levels byte entry.level;
 }
 with_number (Code (suc table) byte) entry e = record e { codes = slice_set e.codes (code_place table byte) entry }
+with_number (Name id) entry e = e
+with_number (Active byte) entry e = e
 with_number CurrentFont entry e = record e { font = entry }
 with_number (Family size number) entry e = record e { families = slice_set e.families (family_place size number) entry }
-with_number _ entry e = e
 
 abbrev pub with_glue : Key → Entry Glue → Entries → Entries
+with_glue (Register Count number) entry e = e
+with_glue (Register Dimen number) entry e = e
 with_glue (Register Skip number) entry e = record e { skips = slice_set e.skips number entry }
 with_glue (Register Muskip number) entry e = record e { muskips = slice_set e.muskips number entry }
+with_glue (Register Box number) entry e = e
+with_glue (Register Toks number) entry e = e
 with_glue (Parameter place) entry e = record e { glue_parameters = slice_set e.glue_parameters place entry }
-with_glue _ entry e = e
+with_glue (Code zero byte) entry e = e
+with_glue (Code (suc table) byte) entry e = e
+with_glue (Name id) entry e = e
+with_glue (Active byte) entry e = e
+with_glue CurrentFont entry e = e
+with_glue (Family size number) entry e = e
 
 abbrev pub with_tokens : Key → Entry (List Token) → Entries → Entries
+with_tokens (Register Count number) entry e = e
+with_tokens (Register Dimen number) entry e = e
+with_tokens (Register Skip number) entry e = e
+with_tokens (Register Muskip number) entry e = e
+with_tokens (Register Box number) entry e = e
 with_tokens (Register Toks number) entry e = record e { lists = slice_set e.lists number entry }
 with_tokens (Parameter place) entry e = record e { token_parameters = slice_set e.token_parameters place entry }
-with_tokens _ entry e = e
+with_tokens (Code zero byte) entry e = e
+with_tokens (Code (suc table) byte) entry e = e
+with_tokens (Name id) entry e = e
+with_tokens (Active byte) entry e = e
+with_tokens CurrentFont entry e = e
+with_tokens (Family size number) entry e = e
 
 abbrev pub with_meaning : Key → Entry Meaning → Entries → Entries
+with_meaning (Register Count number) entry e = e
+with_meaning (Register Dimen number) entry e = e
+with_meaning (Register Skip number) entry e = e
+with_meaning (Register Muskip number) entry e = e
+with_meaning (Register Box number) entry e = e
+with_meaning (Register Toks number) entry e = e
+with_meaning (Parameter place) entry e = e
+with_meaning (Code zero byte) entry e = e
+with_meaning (Code (suc table) byte) entry e = e
 with_meaning (Name id) entry e = record e { names = slice_set e.names id.0 entry }
 with_meaning (Active byte) entry e = record e { actives = slice_set e.actives byte entry }
-with_meaning _ entry e = e
+with_meaning CurrentFont entry e = e
+with_meaning (Family size number) entry e = e
 
 -- whether a table reaches an entry, so that it can be replaced
 abbrev pub parameter_room_by : Entries → ℕ → Bool → Bool → Bool

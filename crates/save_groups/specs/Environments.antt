@@ -58,6 +58,10 @@ entered kind line c =
 abbrev pub saves_outside : ℕ → List Save → List Save
 saves_outside group saves = filter (λ save. not (save.group == group)) saves
 
+-- the saves that were made in a group
+abbrev pub saves_inside : ℕ → List Save → List Save
+saves_inside group saves = filter (λ save. save.group == group) saves
+
 -- the innermost group
 abbrev pub first_of : List OpenGroup → Option OpenGroup
 first_of [] = None

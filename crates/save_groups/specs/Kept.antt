@@ -1,6 +1,6 @@
--- What the store of environments keeps: each entry that belongs to an open group was saved in it, and the saves of
--- a group stand together.
-use Rattle.std.specs.Prelude.{◌≡◌, ℕ, ◌+◌, ◌≤◌, ◌==◌, Bool, ◌&&◌, true, List, [], ◌∷◌, ◌++◌, length, take, drop, map, reverse, vec_len, vec_capacity, IsTrue}
+-- What the store of environments keeps: each entry that belongs to an open group was saved in it, what was saved in
+-- a group belongs to it or was assigned globally since, and the saves of a group stand together.
+use Rattle.std.specs.Prelude.{◌≡◌, ◌⊎◌, ℕ, ◌+◌, ◌≤◌, ◌==◌, Bool, ◌&&◌, true, List, [], ◌∷◌, ◌++◌, length, take, drop, map, reverse, vec_len, vec_capacity, IsTrue}
 use Rattle.std.specs.List.{list_any, list_all}
 use Rattle.tokens.specs.declared.token.Token.{Token}
 use Rattle.save_groups.specs.declared.key.Key.{Key}
@@ -8,7 +8,7 @@ use Rattle.save_groups.specs.declared.save.Save.{Save}
 use Rattle.save_groups.specs.declared.group.Group.{Group}
 use Rattle.save_groups.specs.declared.env.Env.TheInside.{Inside}
 use Rattle.save_groups.specs.Keys.{same_key, is_key}
-use Rattle.save_groups.specs.Values.{fits}
+use Rattle.save_groups.specs.Values.{fits, is_in_mode}
 use Rattle.save_groups.specs.Environments.{Environment}
 use Rattle.save_groups.specs.Entries.{Entries, at, has_room}
 use Rattle.save_groups.specs.Standing.{Store, Mark, undone}
@@ -24,6 +24,8 @@ pub record IsKept (mark : Mark) (outside : ℕ) (saves : List Save) (env : Envir
   pub levels : (key : Key) → (env key).level ≤ outside + 1
   -- what belongs to the group was saved in it
   pub saved : (key : Key) → (env key).level ≡ outside + 1 → IsTrue (is_saved key (drop mark.first saves))
+  -- what was saved in the group belongs to it, but for what was assigned globally since
+  pub owned : (key : Key) → IsTrue (is_saved key (drop mark.first saves)) → ((env key).level ≡ outside + 1) ⊎ ((env key).level ≡ 1)
   pub numbered : IsTrue (list_all (λ save. save.group == outside + 1) (drop mark.first saves))
 
 -- all groups, from the inside out
@@ -31,6 +33,11 @@ abbrev pub AreKept : List Mark → List Save → Environment → Type 0
 AreKept [] saves env = (saves ≡ []) × ((key : Key) → (env key).level ≡ 1)
 AreKept (mark ∷ outer) saves env =
     IsKept mark (length outer + 1) saves env × AreKept outer (take mark.first saves) (undone (drop mark.first saves) env)
+
+-- each register that a meaning names, one that stands in the environment or one that was saved, is one of the mode's
+pub record IsInMode (extended : Bool) (saves : List Save) (env : Environment) : Type 0 where
+  pub values : (key : Key) → IsTrue (is_in_mode extended (env key).value)
+  pub saved : IsTrue (list_all (λ save. is_in_mode extended save.value) saves)
 
 -- whether a save can be put back where it came from
 abbrev pub can_return : Entries → Save → Bool
@@ -61,3 +68,4 @@ pub record IsStanding (env : Inside) : Type 0 where
   pub few : vec_len env.groups ≤ 255
   pub kept : AreKept (marks_of env.groups.items) env.saves.items (at env.current)
   pub returns : IsTrue (list_all (can_return env.current) env.saves.items)
+  pub in_mode : IsInMode env.extended env.saves.items (at env.current)

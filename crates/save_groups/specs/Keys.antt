@@ -5,54 +5,126 @@ use Rattle.tokens.specs.declared.meaning.RegKind.TheVariants.{Count, Dimen, Skip
 use Rattle.tokens.specs.Meaning.{same_reg_kind}
 use Rattle.save_groups.specs.declared.key.Key.{Key}
 use Rattle.save_groups.specs.declared.key.Key.TheVariants.{Register, Parameter, Code, Name, Active, CurrentFont, Family}
-use Rattle.save_groups.specs.declared.parameters.TheConstants.{FIRST_GLUE, FIRST_TOKENS, FIRST_EXTENDED, EVERY_EOF, PARAMETER_COUNT}
+use Rattle.save_groups.specs.Parameters.{first_glue, first_tokens, first_extended, every_eof, all_parameters}
 
 -- whether two keys name one entry
 abbrev pub same_key : Key → Key → Bool
 same_key (Register kind number) (Register k n) = same_reg_kind kind k && (number == n)
+same_key (Register _ _) (Parameter _) = false
+same_key (Register _ _) (Code _ _) = false
+same_key (Register _ _) (Name _) = false
+same_key (Register _ _) (Active _) = false
+same_key (Register _ _) CurrentFont = false
+same_key (Register _ _) (Family _ _) = false
+same_key (Parameter _) (Register _ _) = false
 same_key (Parameter place) (Parameter p) = place == p
+same_key (Parameter _) (Code _ _) = false
+same_key (Parameter _) (Name _) = false
+same_key (Parameter _) (Active _) = false
+same_key (Parameter _) CurrentFont = false
+same_key (Parameter _) (Family _ _) = false
+same_key (Code _ _) (Register _ _) = false
+same_key (Code _ _) (Parameter _) = false
 same_key (Code table byte) (Code t b) = (table == t) && (byte == b)
+same_key (Code _ _) (Name _) = false
+same_key (Code _ _) (Active _) = false
+same_key (Code _ _) CurrentFont = false
+same_key (Code _ _) (Family _ _) = false
+same_key (Name _) (Register _ _) = false
+same_key (Name _) (Parameter _) = false
+same_key (Name _) (Code _ _) = false
 same_key (Name id) (Name i) = id.0 == i.0
+same_key (Name _) (Active _) = false
+same_key (Name _) CurrentFont = false
+same_key (Name _) (Family _ _) = false
+same_key (Active _) (Register _ _) = false
+same_key (Active _) (Parameter _) = false
+same_key (Active _) (Code _ _) = false
+same_key (Active _) (Name _) = false
 same_key (Active byte) (Active b) = byte == b
+same_key (Active _) CurrentFont = false
+same_key (Active _) (Family _ _) = false
+same_key CurrentFont (Register _ _) = false
+same_key CurrentFont (Parameter _) = false
+same_key CurrentFont (Code _ _) = false
+same_key CurrentFont (Name _) = false
+same_key CurrentFont (Active _) = false
 same_key CurrentFont CurrentFont = true
+same_key CurrentFont (Family _ _) = false
+same_key (Family _ _) (Register _ _) = false
+same_key (Family _ _) (Parameter _) = false
+same_key (Family _ _) (Code _ _) = false
+same_key (Family _ _) (Name _) = false
+same_key (Family _ _) (Active _) = false
+same_key (Family _ _) CurrentFont = false
 same_key (Family size number) (Family s n) = (size == s) && (number == n)
-same_key _ _ = false
 
 -- the parameters of which kind: the extended integer parameters come behind the token parameters
 abbrev pub is_glue_parameter : ℕ → Bool
-is_glue_parameter place = nat_le FIRST_GLUE place && nat_lt place FIRST_TOKENS
+is_glue_parameter place = nat_le first_glue place && nat_lt place first_tokens
 
 abbrev pub is_token_parameter : ℕ → Bool
-is_token_parameter place = (nat_le FIRST_TOKENS place && nat_lt place FIRST_EXTENDED) || (place == EVERY_EOF)
+is_token_parameter place = (nat_le first_tokens place && nat_lt place first_extended) || (place == every_eof)
 
 -- whether an entry holds a number
 abbrev pub holds_number : Key → Bool
 holds_number (Register Count number) = true
 holds_number (Register Dimen number) = true
+holds_number (Register Skip number) = false
+holds_number (Register Muskip number) = false
+holds_number (Register Box number) = false
+holds_number (Register Toks number) = false
 holds_number (Parameter place) = not (is_glue_parameter place || is_token_parameter place)
 holds_number (Code table byte) = true
+holds_number (Name id) = false
+holds_number (Active byte) = false
 holds_number CurrentFont = true
 holds_number (Family size number) = true
-holds_number _ = false
 
 -- whether it holds a glue
 abbrev pub holds_glue : Key → Bool
+holds_glue (Register Count number) = false
+holds_glue (Register Dimen number) = false
 holds_glue (Register Skip number) = true
 holds_glue (Register Muskip number) = true
+holds_glue (Register Box number) = false
+holds_glue (Register Toks number) = false
 holds_glue (Parameter place) = is_glue_parameter place
-holds_glue _ = false
+holds_glue (Code table byte) = false
+holds_glue (Name id) = false
+holds_glue (Active byte) = false
+holds_glue CurrentFont = false
+holds_glue (Family size number) = false
 
 -- whether it holds a list of tokens
 abbrev pub holds_tokens : Key → Bool
+holds_tokens (Register Count number) = false
+holds_tokens (Register Dimen number) = false
+holds_tokens (Register Skip number) = false
+holds_tokens (Register Muskip number) = false
+holds_tokens (Register Box number) = false
 holds_tokens (Register Toks number) = true
 holds_tokens (Parameter place) = is_token_parameter place
-holds_tokens _ = false
+holds_tokens (Code table byte) = false
+holds_tokens (Name id) = false
+holds_tokens (Active byte) = false
+holds_tokens CurrentFont = false
+holds_tokens (Family size number) = false
 
 -- whether it holds a meaning
 abbrev pub holds_meaning : Key → Bool
+holds_meaning (Register Count number) = false
+holds_meaning (Register Dimen number) = false
+holds_meaning (Register Skip number) = false
+holds_meaning (Register Muskip number) = false
+holds_meaning (Register Box number) = false
+holds_meaning (Register Toks number) = false
+holds_meaning (Parameter place) = false
+holds_meaning (Code table byte) = false
 holds_meaning (Name id) = true
 holds_meaning (Active byte) = true
-holds_meaning _ = false
+holds_meaning CurrentFont = false
+holds_meaning (Family size number) = false
 
 -- the greatest number of a register
 abbrev pub register_limit : Bool → ℕ
@@ -60,12 +132,16 @@ register_limit extended = if extended then 32767 else 255
 
 -- how many parameters there are
 abbrev pub parameter_count : Bool → ℕ
-parameter_count extended = if extended then PARAMETER_COUNT else FIRST_EXTENDED
+parameter_count extended = if extended then all_parameters else first_extended
 
 -- whether a mode has this entry
 abbrev pub is_key : Bool → Key → Bool
+is_key extended (Register Count number) = nat_le number (register_limit extended)
+is_key extended (Register Dimen number) = nat_le number (register_limit extended)
+is_key extended (Register Skip number) = nat_le number (register_limit extended)
+is_key extended (Register Muskip number) = nat_le number (register_limit extended)
 is_key extended (Register Box number) = false
-is_key extended (Register kind number) = nat_le number (register_limit extended)
+is_key extended (Register Toks number) = nat_le number (register_limit extended)
 is_key extended (Parameter place) = nat_lt place (parameter_count extended)
 is_key extended (Code table byte) = nat_lt table 6 && nat_lt byte 256
 is_key extended (Name id) = true

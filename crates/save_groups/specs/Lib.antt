@@ -1,4 +1,5 @@
 pub mod InsideCurrent
+pub mod Parameters
 pub mod Keys
 pub mod Values
 pub mod StartValues
@@ -10,3 +11,5 @@ pub mod Standing
 pub mod Table
 pub mod Kept
 pub mod Calls
+pub mod Nodes
+pub mod Examples

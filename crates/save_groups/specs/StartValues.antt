@@ -12,7 +12,7 @@ use Rattle.save_groups.specs.declared.key.Key.{Key}
 use Rattle.save_groups.specs.declared.key.Key.TheVariants.{Register, Parameter, Code, Name, Active, CurrentFont, Family}
 use Rattle.save_groups.specs.declared.value.Value.{Value}
 use Rattle.save_groups.specs.declared.value.Value.TheVariants as value
-use Rattle.save_groups.specs.declared.parameters.TheConstants.{TOLERANCE, MAG, TIME, DAY, MONTH, YEAR, MAX_DEAD_CYCLES, HANG_AFTER, ESCAPE_CHAR, END_LINE_CHAR}
+use Rattle.save_groups.specs.Parameters.{tolerance, mag, time, day, month, year, max_dead_cycles, hang_after, escape_char, end_line_char}
 use Rattle.save_groups.specs.Keys.{is_glue_parameter, is_token_parameter}
 
 abbrev pub is_capital : ℕ → Bool
@@ -60,16 +60,16 @@ start_code (suc (suc (suc (suc (suc table))))) byte = start_delcode byte
 -- the integer and dimension parameters
 abbrev pub start_number : ℕ → ℕ
 start_number place =
-    if place == TOLERANCE then 10000
-    else if place == MAG then 1000
-    else if place == TIME then 720
-    else if place == DAY then 4
-    else if place == MONTH then 7
-    else if place == YEAR then 1776
-    else if place == MAX_DEAD_CYCLES then 25
-    else if place == HANG_AFTER then 1
-    else if place == ESCAPE_CHAR then 92
-    else if place == END_LINE_CHAR then 13
+    if place == tolerance then 10000
+    else if place == mag then 1000
+    else if place == time then 720
+    else if place == day then 4
+    else if place == month then 7
+    else if place == year then 1776
+    else if place == max_dead_cycles then 25
+    else if place == hang_after then 1
+    else if place == escape_char then 92
+    else if place == end_line_char then 13
     else 0
 
 -- a glue that is nothing

@@ -2,15 +2,15 @@
 //! `tex.web`, part 19).
 #![tactic(auto, unfolding(crate::specs::Standing::copies_of))]
 
-ghost use Rattle.std.specs.Prelude.{◌≡◌, ◌==◌, ◌++◌, ◌∷◌, [], true, ℕ, pos, IsTrue, IsSome, IsErr, IfOk, IfErr, OnOk, OnErr, Some, length, vec_len, vec_capacity, take, drop, slice_get, ◌<◌, ◌≤◌, ◌↔◌};
+ghost use Rattle.std.specs.Prelude.{◌≡◌, ◌+◌, ◌*◌, ◌==◌, ◌++◌, ◌∷◌, [], true, ℕ, pos, IsTrue, IsSome, IsErr, IfOk, IfSome, IfErr, OnOk, OnErr, Some, length, vec_len, vec_capacity, take, drop, slice_get, ◌<◌, ◌≤◌, ◌↔◌};
 ghost use Rattle.std.specs.Option.{option_copied, option_map};
 ghost use Rattle.std.specs.List.{list_all};
 ghost use Rattle.tokens.specs.Categories.{category};
 ghost use Rattle.tokens.specs.declared.stop.Stop.TheVariants.{Capacity};
 ghost use Rattle.tokens.specs.declared.cap.Cap.TheVariants.{Groups};
 ghost use Rattle.save_groups.specs.Keys.{is_key, holds_number, holds_glue, holds_tokens, holds_meaning};
-ghost use Rattle.save_groups.specs.Values.{fits};
-ghost use Rattle.save_groups.specs.Environments.{beginning, updated, entered, left, innermost, told_of, with_after, level_of, kind_of};
+ghost use Rattle.save_groups.specs.Values.{fits, names_in_mode, is_in_mode};
+ghost use Rattle.save_groups.specs.Environments.{beginning, updated, entered, left, innermost, told_of, with_after, level_of, kind_of, saves_inside};
 ghost use Rattle.save_groups.specs.Assignment.{assigned, changes_nothing, needs_save, assigned_locally, assigned_globally, assigned_here};
 ghost use Rattle.save_groups.specs.Standing.{copies_of, undone, restored};
 ghost use Rattle.save_groups.specs.Entries.{at, has_room};
@@ -103,11 +103,12 @@ impl Env {
         self.current.tokens(key)
     }
 
-    /// What a name or an active character stands for.
+    /// What a name or an active character stands for. A register that it names is one of the mode's.
     pub fn meaning(&self, key: Key) -> &Meaning
         requires key { IsTrue (is_key (copies_of self.now).extended key) }
         requires kind { IsTrue (holds_meaning key) }
-        ensures { ((copies_of self.now).last key).value ≡ kind.Meaning result.now }
+        ensures value { ((copies_of self.now).last key).value ≡ kind.Meaning result.now }
+        ensures mode { IsTrue (names_in_mode (copies_of self.now).extended result.now) }
     {
         self.current.meaning(key)
     }
@@ -143,9 +144,11 @@ impl Env {
         self.saves.len() as u64
     }
 
-    /// The save with exactly this many saves before it, the oldest first.
+    /// The save with exactly this many saves before it, the oldest first. A register that its meaning names is one of
+    /// the mode's.
     pub fn save(&self, n: u64) -> Option<&Save>
-        ensures { option_copied result ≡ slice_get (copies_of self.now).saves n }
+        ensures save { option_copied result ≡ slice_get (copies_of self.now).saves n }
+        ensures mode { IfSome result (λ save. IsTrue (is_in_mode (copies_of self.now).extended save.now.value)) }
     {
         self.saves.get(n as usize)
     }
@@ -172,12 +175,13 @@ impl Env {
         }
     }
 
-    /// Ends the innermost group: what was assigned locally in it is undone. It takes no memory.
+    /// Ends the innermost group: what was assigned locally in it is undone. It takes no memory, and at most two steps
+    /// for each save that it undoes.
     pub fn leave<L: Ledger>(&mut self, _steps: &mut Steps<L>) -> Left
         requires { IsSome (innermost (copies_of self.old)) }
         ensures left { copies_of self.new ≡ left (copies_of self.old) }
         ensures told { option_map told_of (innermost (copies_of self.old)) ≡ Some result }
-        ensures steps { _steps.new ≡ _steps.old }
+        ensures steps { _steps.new ≤ _steps.old + 2 * length (saves_inside (level_of (copies_of self.old)) (copies_of self.old).saves) }
     {
         let Some(group) = self.groups.pop() else {
             unreachable!()
@@ -190,7 +194,8 @@ impl Env {
         }
     }
 
-    /// Puts a value into an entry, until the group ends or for good. After a refusal all is as it was.
+    /// Puts a value into an entry, until the group ends or for good, in at most four steps. After a refusal all is as
+    /// it was.
     pub fn assign<L: Ledger>(
         &mut self,
         key: Key,
@@ -200,9 +205,10 @@ impl Env {
     ) -> Result<(), AllocError>
         requires key { IsTrue (is_key (copies_of self.old).extended key) }
         requires kind { IsTrue (fits key value) }
+        requires mode { IsTrue (is_in_mode (copies_of self.old).extended value) }
         ensures ok { OnOk result (copies_of self.new ≡ assigned key value scope (copies_of self.old)) }
         ensures err { OnErr result (copies_of self.new ≡ copies_of self.old) }
-        ensures steps { _steps.new ≡ _steps.old }
+        ensures steps { _steps.new ≤ _steps.old + 4 }
     {
         match scope {
             Scope::Local => self.assign_locally(key, value),
@@ -213,6 +219,7 @@ impl Env {
     fn assign_globally(&mut self, key: Key, value: Value) -> Result<(), AllocError>
         requires key { IsTrue (is_key (copies_of self.old).extended key) }
         requires kind { IsTrue (fits key value) }
+        requires mode { IsTrue (is_in_mode (copies_of self.old).extended value) }
         ensures ok { OnOk result (copies_of self.new ≡ assigned_globally key value (copies_of self.old)) }
         ensures err { OnErr result (copies_of self.new ≡ copies_of self.old) }
     {
@@ -222,6 +229,7 @@ impl Env {
     fn assign_locally(&mut self, key: Key, value: Value) -> Result<(), AllocError>
         requires key { IsTrue (is_key (copies_of self.old).extended key) }
         requires kind { IsTrue (fits key value) }
+        requires mode { IsTrue (is_in_mode (copies_of self.old).extended value) }
         ensures ok { OnOk result (copies_of self.new ≡ assigned_locally key value (copies_of self.old)) }
         ensures err { OnErr result (copies_of self.new ≡ copies_of self.old) }
     {
@@ -244,6 +252,7 @@ impl Env {
     fn assign_here(&mut self, key: Key, value: Value) -> Result<(), AllocError>
         requires key { IsTrue (is_key (copies_of self.old).extended key) }
         requires kind { IsTrue (fits key value) }
+        requires mode { IsTrue (is_in_mode (copies_of self.old).extended value) }
         ensures ok { OnOk result (copies_of self.new ≡ assigned_here key value (copies_of self.old)) }
         ensures err { OnErr result (copies_of self.new ≡ copies_of self.old) }
     {

@@ -2,14 +2,16 @@
 //! copied whole at the beginning of each group (The TeXbook, chapter 24; `tex.web`, part 19).
 #![tactic(auto)]
 
+pub use call::{Call, make};
 pub use entry::Entry;
 pub use env::Env;
 pub use group::Left;
 pub use key::{Key, Scope};
-pub use laws::{calls_law, levels_law, saves_law};
+pub use laws::{calls_law, given_law, levels_law, nodes_law, places_law, saves_law};
 pub use save::Save;
 pub use value::Value;
 
+mod call;
 mod current;
 mod entry;
 mod env;

@@ -1,8 +1,8 @@
 //! What TeX's rules say of groups, on values by hand (The TeXbook, chapters 20 and 24, and appendix B; the e-TeX
 //! manual, on assignments that change nothing).
-ghost use Rattle.std.specs.Prelude.{◌≡◌, ◌<◌, ℤ, false, IsTrue};
+ghost use Rattle.std.specs.Prelude.{◌≡◌, ◌<◌, ℤ, Bool, false, IsTrue};
 ghost use Rattle.save_groups.specs.Keys.{is_key, holds_number, holds_glue, holds_tokens, holds_meaning};
-ghost use Rattle.save_groups.specs.Values.{fits};
+ghost use Rattle.save_groups.specs.Values.{fits, is_in_mode};
 ghost use Rattle.save_groups.specs.declared.key.Key.{Key};
 ghost use Rattle.save_groups.specs.declared.value.Value.TheVariants as kind;
 
@@ -17,6 +17,7 @@ use steps::Steps;
 use tokens::{Meaning, NameId, RegKind, Stop, Token, TokenList};
 
 mod entries;
+mod field;
 mod nesting;
 mod same_values;
 mod scopes;
@@ -118,6 +119,7 @@ impl<L: Ledger> Groups<L> {
     fn set(&mut self, key: Key, value: Value, scope: Scope) -> Result<(), AllocError>
         requires key { IsTrue (is_key false key) }
         requires kind { IsTrue (fits key value) }
+        requires mode { (extended : Bool) → IsTrue (is_in_mode extended value) }
     {
         self.env.assign(key, value, scope, &mut self.steps)
     }

@@ -2,7 +2,7 @@
 use Rattle.std.proofs.Common.{◌≡◌, ◌+◌, List, [], ◌∷◌, length, Bool, true, false, refl, ap, sym, ◌∙◌, arith, inl, inr, subst}
 use Rattle.std.proofs.lemmas.List.{length-map}
 use Rattle.tokens.specs.declared.token.Token.{Token}
-use Rattle.std.specs.Prelude.{◌⊎◌, map, if◌then◌else◌}
+use Rattle.std.specs.Prelude.{◌⊎◌, map, Option, Result, Ok, Err, if◌then◌else◌}
 use Rattle.save_groups.specs.declared.key.Key.{Key}
 use Rattle.save_groups.specs.declared.key.Scope.TheVariants.{Local, Global}
 use Rattle.save_groups.specs.declared.value.Value.{Value}
@@ -10,7 +10,11 @@ use Rattle.save_groups.specs.declared.entry.Entry.{Entry}
 use Rattle.save_groups.specs.Keys.{same_key}
 use Rattle.save_groups.specs.Environments.{Environment, updated, OpenGroup, Copies, environments, beginning, level_of, left_by, with_after_by}
 use Rattle.save_groups.specs.Assignment.{assigned_here, assigned_globally, with_outside, changes_nothing}
-use Rattle.save_groups.specs.Calls.{LevelsLaw, AreNested, IsOutside, Attempt, Call, assigning, entering, leaving, waiting, done, attempted, after_attempts}
+use Rattle.tokens.specs.declared.stop.Stop.{Stop}
+use Rattle.save_groups.specs.declared.group.Left.{Left}
+use Rattle.save_groups.specs.declared.call.Call.{Call}
+use Rattle.save_groups.specs.declared.call.Call.TheVariants.{Assign, Enter, Leave, AfterGroup}
+use Rattle.save_groups.specs.Calls.{LevelsLaw, AreNested, IsOutside, Attempt, done, attempted, attempted_by, after_attempts}
 use Rattle.save_groups.proofs.KeyLemmas.{updated-same, updated-other}
 use Rattle.save_groups.proofs.laws.levels_law.Goals as goal
 
@@ -75,19 +79,19 @@ after_nested token [] c e h = h
 after_nested token (group ∷ groups) c e h = let P : List OpenGroup → Type 0 = λ gs. AreNested (c.last ∷ map (λ g. g.outside) gs) in subst P e h
 
 one_call : (call : Call) (c : Copies) → AreNested (environments c) → AreNested (environments (done call c))
-one_call (assigning key value Local) c h = locally key value c (changes_nothing key value c) h
-one_call (assigning key value Global) c h = globally key value c h
-one_call (entering kind line) c h = (λ key. inr refl, h)
-one_call leaving c h = left_nested c.groups c refl h
-one_call (waiting token) c h = after_nested token c.groups c refl h
+one_call (Assign key value Local) c h = locally key value c (changes_nothing key value c) h
+one_call (Assign key value Global) c h = globally key value c h
+one_call (Enter kind line) c h = (λ key. inr refl, h)
+one_call Leave c h = left_nested c.groups c refl h
+one_call (AfterGroup token) c h = after_nested token c.groups c refl h
 
-one_attempt : (attempt : Attempt) (c : Copies) (b : Bool) → AreNested (environments c) → AreNested (environments (if b then c else done attempt.call c))
-one_attempt attempt c true h = h
-one_attempt attempt c false h = one_call attempt.call c h
+one_attempt : (call : Call) (answer : Result (Option Left) Stop) (c : Copies) → AreNested (environments c) → AreNested (environments (attempted_by call answer c))
+one_attempt call (Ok tells) c h = one_call call c h
+one_attempt call (Err stop) c h = h
 
 all_attempts : (attempts : List Attempt) (c : Copies) → AreNested (environments c) → AreNested (environments (after_attempts attempts c))
 all_attempts [] c h = h
-all_attempts (attempt ∷ attempts) c h = all_attempts attempts (attempted attempt c) (one_attempt attempt c attempt.refused h)
+all_attempts (attempt ∷ attempts) c h = all_attempts attempts (attempted attempt c) (one_attempt attempt.call attempt.answer c h)
 
 whole : LevelsLaw
 whole extended attempts = all_attempts attempts (beginning extended) (λ key. inl refl, tt)

@@ -3,6 +3,7 @@ use Rattle.std.proofs.lemmas.Result.{on_ok_weaker}
 use Rattle.save_groups.specs.Entries.{at}
 use Rattle.save_groups.specs.Kept.{marks_of, store_of}
 use Rattle.save_groups.proofs.Keeping.{kept-global}
+use Rattle.save_groups.proofs.Modes.{mode-same, mode-changed, mode-stored}
 use Rattle.save_groups.proofs.Steps.{returns-further}
 use Rattle.std.proofs.Common.{refl}
 use Rattle.save_groups.proofs.Assigning.{either, kept-along, store-global}
@@ -17,6 +18,10 @@ invariant_of-self c = record {
       (kept-global (marks_of c.self.inside.groups.items) c.self.inside.saves.items (at c.self.inside.current) c.args.key (record { value = c.args.value; level = 1 }) refl c.self.invariant.kept))
       (λ same. kept-along (marks_of c.self.inside.groups.items) c.self.inside.saves.items (at c.self.inside.current) (at c.change.new.current) same c.self.invariant.kept);
   returns = returns-further c.self.inside.current c.change.new.current c.self.inside.saves.items c.change.ensures.kept c.self.invariant.returns;
+  in_mode = either c.change.result c.change.ensures.ok c.change.ensures.err
+      (λ changed. mode-changed c.self.inside.extended c.self.inside.saves.items (at c.self.inside.current) (at c.change.new.current) c.args.key
+      (record { value = c.args.value; level = 1 }) (mode-stored (store_of c.self.inside) c.args.self.now c.args.value c.self.view_is c.requires.mode) changed c.self.invariant.in_mode)
+      (λ same. mode-same c.self.inside.extended c.self.inside.saves.items c.self.inside.saves.items (at c.self.inside.current) (at c.change.new.current) same refl c.self.invariant.in_mode);
 }
 
 pub returns-clause-ok : goal.returns-clause-ok

@@ -31,4 +31,5 @@ invariant_of-self c =
       few = omega (arith, c.in-Ok.ensures.len, c.if-len-ge-MAX_GROUPS.false, c.len.ensures);
       kept = subst P (sym marks) (kept-entered _ (marks_of c.self.inside.groups.items) c.self.inside.saves.items (at c.self.inside.current) refl c.self.invariant.kept);
       returns = c.self.invariant.returns;
+      in_mode = c.self.invariant.in_mode;
     }

@@ -3,6 +3,7 @@ use Rattle.std.proofs.Common.{ap, ◌∙◌, arith}
 use Rattle.save_groups.specs.Entries.{at}
 use Rattle.save_groups.specs.Kept.{mark_of, marks_of}
 use Rattle.save_groups.proofs.Marks.{marks-push}
+use Rattle.save_groups.proofs.Modes.{mode-undone}
 use Rattle.save_groups.proofs.Steps.{copies-leave, kept-leave}
 use Rattle.save_groups.proofs.env.Env.leave.Goals as goal
 
@@ -14,6 +15,8 @@ invariant_of-self g c = record {
       (at c.self.inside.current) (at c.undo.new.current) (ap marks_of c.in-Some.ensures.items ∙ marks-push c.pop.new.self.items c.in-Some.group)
       c.self.invariant.kept c.undo.ensures.undone c.undo.ensures.rest;
   returns = c.undo.ensures.returns;
+  in_mode = mode-undone c.self.inside.extended c.self.inside.saves.items c.undo.new.saves.items c.in-Some.group.first (at c.self.inside.current) (at c.undo.new.current)
+      c.undo.ensures.undone c.undo.ensures.rest c.self.invariant.in_mode;
 }
 
 pub returns-clause-left : goal.returns-clause-left
