@@ -9,3 +9,4 @@ pub mod Refusal
 pub mod Trace
 pub mod InTurn
 pub mod Asked
+pub mod Faulty
