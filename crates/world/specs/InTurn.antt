@@ -1,47 +1,43 @@
--- Calls on an open file, one after another, by what the system answered to each.
-use Rattle.std.specs.Prelude.{◌≡◌, ◌≢◌, ◌⊎◌, ℕ, ◌+◌, ◌-◌, ◌^◌, ◌<◌, List, [], ◌++◌, length, take, drop, Result, Ok, Err, Vec}
+-- Calls on an open file or on the terminal, one after another, by what the system answered to each.
+use Rattle.std.specs.Prelude.{◌≡◌, ◌≢◌, ℕ, ◌^◌, ◌<◌, ◌≤◌, List, [], ◌∷◌, ◌++◌, length, take, drop, Result, Ok, Err}
 use Rattle.std.specs.IoError.{error_kind}
 use Rattle.std.specs.declared.io.Error.{Error}
 use Rattle.std.specs.declared.io.ErrorKind.TheVariants.{Interrupted}
+use Rattle.world.specs.declared.disk.Outlet.{Outlet}
 use Rattle.world.specs.declared.world.WorldError.{WorldError}
 use Rattle.world.specs.declared.world.WorldError.TheVariants.{Failed, OutOfMemory}
 use Rattle.world.specs.Refusal.{refusal_of}
+use Rattle.world.specs.Trace.{Call, read_from, wrote_to}
 
 -- the bytes that a read gave, by its count and its buffer
 abbrev pub given : Result ℕ Error → List ℕ → Result (List ℕ) Error
 given (Ok count) buffer = Ok (take count buffer)
 given (Err error) buffer = Err error
 
--- so many reads gave these bytes in all, and left the file so. An interrupted read gave none
-pub data Gave {F : Type 0} (reads : F → Result (List ℕ) Error → F → Type 0) (file : F) : ℕ → List ℕ → F → Type 0 where
-  gave_nothing : Gave reads file 0 [] file
-  gave_more : {n : ℕ} {bytes : List ℕ} {now next : F} (portion : List ℕ) → 0 < length portion → Gave reads file n bytes now → reads now (Ok portion) next → Gave reads file (n + 1) (bytes ++ portion) next
-  read_again : {n : ℕ} {bytes : List ℕ} {now next : F} (error : Error) → Gave reads file n bytes now → reads now (Err error) next → error_kind error ≡ Interrupted → Gave reads file (n + 1) bytes next
+-- these reads gave these bytes in all, and left the file so. An interrupted read gave none
+pub data Gave {F : Type 0} (file : F) : List (Call F) → List ℕ → F → Type 0 where
+  gave_nothing : Gave file [] [] file
+  gave_more : {calls : List (Call F)} {bytes : List ℕ} {now : F} (portion : List ℕ) (next : F) → 0 < length portion → Gave file calls bytes now → Gave file (calls ++ read_from now (Ok portion) next ∷ []) (bytes ++ portion) next
+  read_again : {calls : List (Call F)} {bytes : List ℕ} {now : F} (error : Error) (next : F) → error_kind error ≡ Interrupted → Gave file calls bytes now → Gave file (calls ++ read_from now (Err error) next ∷ []) bytes next
 
--- so many writes took all of these bytes but the rest, and left the file so. An interrupted write took none
-pub data Took {F : Type 0} (writes : F → List ℕ → Result ℕ Error → F → Type 0) (file : F) (bytes : List ℕ) : ℕ → List ℕ → F → Type 0 where
-  took_nothing : Took writes file bytes 0 bytes file
-  took_more : {n : ℕ} {rest : List ℕ} {now next : F} (count : ℕ) → 0 < count → Took writes file bytes n rest now → writes now rest (Ok count) next → Took writes file bytes (n + 1) (drop count rest) next
-  wrote_again : {n : ℕ} {rest : List ℕ} {now next : F} (error : Error) → Took writes file bytes n rest now → writes now rest (Err error) next → error_kind error ≡ Interrupted → Took writes file bytes (n + 1) rest next
+-- a file is read until a read gives nothing, and what was given before is the answer. It is refused
+-- where a read is refused, and fails after 2^40 reads. Memory may be wanted at any time
+pub data ReadsAll {F : Type 0} (file : F) : List (Call F) → Result (List ℕ) WorldError → Type 0 where
+  read_all : {calls : List (Call F)} {bytes : List ℕ} {now : F} (next : F) → Gave file calls bytes now → length calls < 2 ^ 40 → ReadsAll file (calls ++ read_from now (Ok []) next ∷ []) (Ok bytes)
+  read_refused : {calls : List (Call F)} {bytes : List ℕ} {now : F} (error : Error) (next : F) → error_kind error ≢ Interrupted → Gave file calls bytes now → length calls < 2 ^ 40 → ReadsAll file (calls ++ read_from now (Err error) next ∷ []) (Err (refusal_of (error_kind error)))
+  read_too_often : {calls : List (Call F)} {bytes : List ℕ} {now : F} → Gave file calls bytes now → length calls ≡ 2 ^ 40 → ReadsAll file calls (Err Failed)
+  read_without_memory : {calls : List (Call F)} {bytes : List ℕ} {now : F} → Gave file calls bytes now → length calls ≤ 2 ^ 40 → ReadsAll file calls (Err OutOfMemory)
 
--- the system refused a call for good, and this is the world's word for it
-abbrev pub IsRefusal : Error → WorldError → Type 0
-IsRefusal error refusal = (error_kind error ≢ Interrupted) × (refusal ≡ refusal_of (error_kind error))
+-- these writes took all of these bytes but the rest, and left the outlet so. An interrupted write took none
+pub data Took {F : Type 0} (outlet : Outlet F) (bytes : List ℕ) : List (Call F) → List ℕ → Outlet F → Type 0 where
+  took_nothing : Took outlet bytes [] bytes outlet
+  took_more : {calls : List (Call F)} {rest : List ℕ} {now : Outlet F} (count : ℕ) (next : Outlet F) → 0 < count → Took outlet bytes calls rest now → Took outlet bytes (calls ++ wrote_to now rest (Ok count) next ∷ []) (drop count rest) next
+  wrote_again : {calls : List (Call F)} {rest : List ℕ} {now : Outlet F} (error : Error) (next : Outlet F) → error_kind error ≡ Interrupted → Took outlet bytes calls rest now → Took outlet bytes (calls ++ wrote_to now rest (Err error) next ∷ []) rest next
 
--- reading answers all that was given before the first read that gives nothing. It fails where a
--- read does, or after 2^40 reads. Memory may be wanted at any time
-abbrev pub ReadsAll : {F Z : Type 0} → (F → Result (List ℕ) Error → F → Type 0) → F → Result (Vec ℕ Z) WorldError → F → Type 0
-ReadsAll {F} reads file (Ok found) new = (n : ℕ) × (last : F) × Gave reads file n found.items last × reads last (Ok []) new
-ReadsAll {F} reads file (Err Failed) new =
-    (n : ℕ) × (bytes : List ℕ) × (last : F) × Gave reads file n bytes last
-    × (((error : Error) × reads last (Err error) new × IsRefusal error Failed) ⊎ ((n ≡ 2 ^ 40) × (new ≡ last)))
-ReadsAll reads file (Err OutOfMemory) new = Unit {0}
-
--- writing is done once no byte is left. It is refused where a write is, and fails where a write
--- takes nothing, or after 2^64 - 1 writes
-abbrev pub WritesAll : {F : Type 0} → (F → List ℕ → Result ℕ Error → F → Type 0) → F → List ℕ → Result (Unit {0}) WorldError → F → Type 0
-WritesAll writes file bytes (Ok _) new = (n : ℕ) × Took writes file bytes n [] new
-WritesAll {F} writes file bytes (Err refusal) new =
-    (n : ℕ) × (rest : List ℕ) × (last : F) × Took writes file bytes n rest last
-    × (((error : Error) × writes last rest (Err error) new × IsRefusal error refusal)
-    ⊎ ((refusal ≡ Failed) × (writes last rest (Ok 0) new ⊎ ((n ≡ 2 ^ 64 - 1) × (new ≡ last)))))
+-- writing is done once no byte is left. It is refused where a write is refused, and fails where a
+-- write takes nothing, or where bytes are left after 2^40 writes
+pub data WritesAll {F : Type 0} (outlet : Outlet F) (bytes : List ℕ) : List (Call F) → Result (Unit {0}) WorldError → Type 0 where
+  wrote_all : {calls : List (Call F)} {now : Outlet F} → Took outlet bytes calls [] now → length calls ≤ 2 ^ 40 → WritesAll outlet bytes calls (Ok tt)
+  write_refused : {calls : List (Call F)} {rest : List ℕ} {now : Outlet F} (error : Error) (next : Outlet F) → error_kind error ≢ Interrupted → 0 < length rest → Took outlet bytes calls rest now → length calls < 2 ^ 40 → WritesAll outlet bytes (calls ++ wrote_to now rest (Err error) next ∷ []) (Err (refusal_of (error_kind error)))
+  write_took_nothing : {calls : List (Call F)} {rest : List ℕ} {now : Outlet F} (next : Outlet F) → 0 < length rest → Took outlet bytes calls rest now → length calls < 2 ^ 40 → WritesAll outlet bytes (calls ++ wrote_to now rest (Ok 0) next ∷ []) (Err Failed)
+  wrote_too_often : {calls : List (Call F)} {rest : List ℕ} {now : Outlet F} → 0 < length rest → Took outlet bytes calls rest now → length calls ≡ 2 ^ 40 → WritesAll outlet bytes calls (Err Failed)

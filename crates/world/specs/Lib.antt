@@ -6,5 +6,7 @@ pub mod Output
 pub mod Memory
 pub mod Lines
 pub mod Refusal
+pub mod Trace
 pub mod InTurn
 pub mod Asked
+pub mod Faulty

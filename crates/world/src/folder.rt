@@ -1,38 +1,41 @@
 //! The world of a real run: the files of the current folder, and standard output as the terminal.
-ghost use Rattle.std.specs.Prelude.{◌≡◌, ℕ, None, Ok, Result, MatchResult};
+ghost use Rattle.std.specs.Prelude.{◌≡◌, ℕ, [], ◌∷◌, List, None, Ok, Result, MatchResult};
 ghost use Rattle.std.specs.declared.io.Error.{Error};
 ghost use Rattle.world.specs.Asked.{to_read, to_create, to_append, done_by, FetchedBy, AppendedBy};
 ghost use Rattle.world.specs.Calls.{Fetches, Creates, Appends, Shows, Counts};
+ghost use Rattle.world.specs.InTurn.{WritesAll};
 ghost use Rattle.world.specs.Name.{IsGoodName};
+ghost use Rattle.world.specs.Trace.{Call, Did, opened};
+ghost use Rattle.world.specs.declared.disk.Outlet.TheVariants.{Terminal};
 
-use crate::disk::Disk;
+use crate::disk::{Disk, Outlet};
 use crate::whole::{read_to_end, refusal, write_all};
 use crate::world::{World, WorldError};
 use std::alloc::Global;
 use std::fs::OpenOptions;
 use std::io::ErrorKind;
-use std::rt::Runtime;
 use std::str;
 
 /// Files under the current folder and standard output. It tells nothing of them, since no contract
-/// can say what a disk holds; each call says what it asked of the system, and what it made of the
-/// answers. Its two counters stay at their last value, where Failed may come without a rise.
+/// can say what a disk holds; each call says exactly what it asked of the system, and what it made
+/// of the answers. Its two counters stay at their last value, where Failed may come without a rise.
 #[derive(Drop)]
-pub struct DirWorld<R: Runtime> {
-    rt: R,
+pub struct DirWorld<R: Disk> {
+    system: R,
     read_faults: u64,
     write_faults: u64,
 }
 
-impl<R: Runtime> DirWorld<R> {
-    /// The world of the current folder, which has met no fault yet.
+impl<R: Disk> DirWorld<R> {
+    /// The world of the current folder, which has met no fault yet. Nothing is asked of the system.
     pub fn new(rt: R, _alloc: Global) -> DirWorld<R>
+        ensures asked { result.system ≡ rt }
         ensures told { ⟦<DirWorld<R> as World>⟧.told result ≡ None }
         ensures read_faults { ⟦<DirWorld<R> as World>⟧.read_faults result ≡ 0 }
         ensures write_faults { ⟦<DirWorld<R> as World>⟧.write_faults result ≡ 0 }
     {
         DirWorld {
-            rt,
+            system: rt,
             read_faults: 0,
             write_faults: 0,
         }
@@ -41,6 +44,8 @@ impl<R: Runtime> DirWorld<R> {
 
 impl<R: Disk> World for DirWorld<R> {
     ghost told = { λ _. None };
+
+    ghost which = { λ _. 0 };
 
     ghost read_faults = { λ w. w.read_faults };
 
@@ -52,9 +57,9 @@ impl<R: Disk> World for DirWorld<R> {
         ensures answer { Fetches name.now result None None }
         ensures read_fault { Counts None result self.old.read_faults self.new.read_faults }
         ensures write_fault { self.new.write_faults ≡ self.old.write_faults }
-        ensures asked { (answer : Result R.File Error) × R.opens self.old.rt to_read name.now answer × FetchedBy R.reads answer result }
+        ensures asked { (answer : Result R.File Error) × (calls : List (Call R.File)) × Did R.did self.old.system (opened to_read name.now answer ∷ calls) self.new.system × FetchedBy answer calls result }
     {
-        let read = read_file(&self.rt, alloc, name);
+        let read = read_file(&mut self.system, alloc, name);
         count_fault(&mut self.read_faults, read)
     }
 
@@ -63,9 +68,9 @@ impl<R: Disk> World for DirWorld<R> {
         ensures answer { Creates name.now result None None }
         ensures read_fault { self.new.read_faults ≡ self.old.read_faults }
         ensures write_fault { Counts None result self.old.write_faults self.new.write_faults }
-        ensures asked { (answer : Result R.File Error) × R.opens self.old.rt to_create name.now answer × (result ≡ done_by answer) }
+        ensures asked { (answer : Result R.File Error) × Did R.did self.old.system (opened to_create name.now answer ∷ []) self.new.system × (result ≡ done_by answer) }
     {
-        let created = create_file(&self.rt, name);
+        let created = create_file(&mut self.system, name);
         count_fault(&mut self.write_faults, created)
     }
 
@@ -74,9 +79,9 @@ impl<R: Disk> World for DirWorld<R> {
         ensures answer { Appends name.now bytes.now result None None }
         ensures read_fault { self.new.read_faults ≡ self.old.read_faults }
         ensures write_fault { Counts None result self.old.write_faults self.new.write_faults }
-        ensures asked { (answer : Result R.File Error) × R.opens self.old.rt to_append name.now answer × AppendedBy R.writes answer bytes.now result }
+        ensures asked { (answer : Result R.File Error) × (calls : List (Call R.File)) × Did R.did self.old.system (opened to_append name.now answer ∷ calls) self.new.system × AppendedBy answer bytes.now calls result }
     {
-        let added = append_file(&self.rt, name, bytes);
+        let added = append_file(&mut self.system, name, bytes);
         count_fault(&mut self.write_faults, added)
     }
 
@@ -84,9 +89,9 @@ impl<R: Disk> World for DirWorld<R> {
         ensures answer { Shows bytes.now result None None }
         ensures read_fault { self.new.read_faults ≡ self.old.read_faults }
         ensures write_fault { Counts None result self.old.write_faults self.new.write_faults }
-        ensures asked { (answer : Result (Unit {0}) Error) × R.prints self.old.rt bytes.now answer × (result ≡ done_by answer) }
+        ensures asked { (calls : List (Call R.File)) × Did R.did self.old.system calls self.new.system × WritesAll Terminal bytes.now calls result }
     {
-        let shown = show_bytes(&self.rt, bytes);
+        let shown = write_all(&mut self.system, &mut Outlet::Terminal, bytes);
         count_fault(&mut self.write_faults, shown)
     }
 }
@@ -111,12 +116,16 @@ fn path(name: &[u8]) -> Result<&str, WorldError>
     str::from_utf8(name).map_err(|_| WorldError::Failed)
 }
 
-fn read_file<R: Disk>(rt: &R, alloc: Global, name: &[u8]) -> Result<Option<Vec<u8>>, WorldError>
+fn read_file<D: Disk>(
+    disk: &mut D,
+    alloc: Global,
+    name: &[u8],
+) -> Result<Option<Vec<u8>>, WorldError>
     requires good { IsGoodName name.now }
-    ensures asked { (answer : Result R.File Error) × R.opens rt.now to_read name.now answer × FetchedBy R.reads answer result }
+    ensures asked { (answer : Result D.File Error) × (calls : List (Call D.File)) × Did D.did disk.old (opened to_read name.now answer ∷ calls) disk.new × FetchedBy answer calls result }
 {
-    match rt.open_at(OpenOptions::new().read(true), path(name)?) {
-        Ok(mut file) => Ok(Some(read_to_end(rt, alloc, &mut file)?)),
+    match disk.open_at(OpenOptions::new().read(true), path(name)?) {
+        Ok(mut file) => Ok(Some(read_to_end(disk, alloc, &mut file)?)),
         Err(error) => match error.kind() {
             ErrorKind::NotFound | ErrorKind::NotADirectory => Ok(None),
             _ => Err(refusal(error)),
@@ -124,11 +133,11 @@ fn read_file<R: Disk>(rt: &R, alloc: Global, name: &[u8]) -> Result<Option<Vec<u
     }
 }
 
-fn create_file<R: Disk>(rt: &R, name: &[u8]) -> Result<(), WorldError>
+fn create_file<D: Disk>(disk: &mut D, name: &[u8]) -> Result<(), WorldError>
     requires good { IsGoodName name.now }
-    ensures asked { (answer : Result R.File Error) × R.opens rt.now to_create name.now answer × (result ≡ done_by answer) }
+    ensures asked { (answer : Result D.File Error) × Did D.did disk.old (opened to_create name.now answer ∷ []) disk.new × (result ≡ done_by answer) }
 {
-    match rt.open_at(
+    match disk.open_at(
         OpenOptions::new().write(true).create(true).truncate(true),
         path(name)?,
     ) {
@@ -137,21 +146,12 @@ fn create_file<R: Disk>(rt: &R, name: &[u8]) -> Result<(), WorldError>
     }
 }
 
-fn append_file<R: Disk>(rt: &R, name: &[u8], bytes: &[u8]) -> Result<(), WorldError>
+fn append_file<D: Disk>(disk: &mut D, name: &[u8], bytes: &[u8]) -> Result<(), WorldError>
     requires good { IsGoodName name.now }
-    ensures asked { (answer : Result R.File Error) × R.opens rt.now to_append name.now answer × AppendedBy R.writes answer bytes.now result }
+    ensures asked { (answer : Result D.File Error) × (calls : List (Call D.File)) × Did D.did disk.old (opened to_append name.now answer ∷ calls) disk.new × AppendedBy answer bytes.now calls result }
 {
-    match rt.open_at(OpenOptions::new().append(true).create(true), path(name)?) {
-        Ok(mut file) => write_all(rt, &mut file, bytes),
-        Err(error) => Err(refusal(error)),
-    }
-}
-
-fn show_bytes<R: Disk>(rt: &R, bytes: &[u8]) -> Result<(), WorldError>
-    ensures asked { (answer : Result (Unit {0}) Error) × R.prints rt.now bytes.now answer × (result ≡ done_by answer) }
-{
-    match rt.print_bytes(bytes) {
-        Ok(()) => Ok(()),
+    match disk.open_at(OpenOptions::new().append(true).create(true), path(name)?) {
+        Ok(file) => write_all(disk, &mut Outlet::File(file), bytes),
         Err(error) => Err(refusal(error)),
     }
 }

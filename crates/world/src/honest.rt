@@ -1,9 +1,10 @@
 //! A world in memory that never fails but for want of memory, for runs whose files and text are to
 //! be looked at afterwards.
-ghost use Rattle.std.specs.Prelude.{◌≡◌, ℕ, Some, OnOk, OnErr, option_copied, slice_get};
+ghost use Rattle.std.specs.Prelude.{◌≡◌, ℕ, Some, IfOk, OnOk, OnErr, option_copied, option_map, slice_get};
 ghost use Rattle.std.specs.FinMap as tree;
-ghost use Rattle.world.specs.Told.{counted};
+ghost use Rattle.world.specs.Told.{Told};
 
+use crate::counts::counted;
 use crate::files;
 use crate::files::Files;
 use crate::world::{World, WorldError};
@@ -32,11 +33,14 @@ impl Model for HonestWorld {
 }
 
 impl HonestWorld {
-    ghost use Rattle.world.specs.Told.{empty_world, with_file, names};
+    ghost use Rattle.world.specs.Told.{empty_world, after_fetch, with_file, with_added, with_shown, names};
 
     /// A world without files.
     pub fn new(alloc: Global) -> HonestWorld
-        ensures { result ≡ empty_world }
+        ensures empty { result ≡ empty_world }
+        ensures told { ⟦<HonestWorld as World>⟧.told result ≡ Some empty_world }
+        ensures read_faults { ⟦<HonestWorld as World>⟧.read_faults result ≡ 0 }
+        ensures write_faults { ⟦<HonestWorld as World>⟧.write_faults result ≡ 0 }
     {
         HonestWorld {
             alloc,
@@ -52,6 +56,44 @@ impl HonestWorld {
         ensures err { OnErr result (self.new ≡ self.old) }
     {
         files::put(&mut self.files, self.alloc, name, bytes)
+    }
+
+    /// Adds bytes behind those that a name stands for, or behind none where it is absent.
+    pub(crate) fn add(&mut self, name: &[u8], bytes: &[u8]) -> Result<(), AllocError>
+        ensures ok { OnOk result (self.new ≡ with_added name.now bytes.now self.old) }
+        ensures err { OnErr result (self.new ≡ self.old) }
+    {
+        files::add(&mut self.files, self.alloc, name, bytes)
+    }
+
+    /// Adds bytes to the terminal.
+    pub(crate) fn print(&mut self, bytes: &[u8]) -> Result<(), AllocError>
+        ensures ok { OnOk result (self.new ≡ with_shown bytes.now self.old) }
+        ensures err { OnErr result (self.new ≡ self.old) }
+    {
+        self.terminal.extend_from_slice(bytes)?;
+        Ok(())
+    }
+
+    /// A copy of what a name stands for, which is counted as a fetch.
+    pub(crate) fn read(&mut self, alloc: Global, name: &[u8]) -> Result<Option<Vec<u8>>, AllocError>
+        ensures found { IfOk result (λ found. option_map (λ bytes. bytes.items) found ≡ tree.get self.old.files name.now) }
+        ensures ok { OnOk result (self.new ≡ after_fetch self.old) }
+        ensures err { OnErr result (self.new ≡ self.old) }
+    {
+        let found = match files::find(&self.files, name) {
+            Some(bytes) => Some(Vec::from_slice(alloc, bytes)?),
+            None => None,
+        };
+        self.count_fetch();
+        Ok(found)
+    }
+
+    /// One more fetch.
+    pub(crate) fn count_fetch(&mut self)
+        ensures { self.new ≡ after_fetch self.old }
+    {
+        self.fetched = counted(self.fetched);
     }
 
     /// The bytes that a name stands for, None where it is absent.
@@ -80,38 +122,36 @@ impl HonestWorld {
 impl World for HonestWorld {
     ghost told = { λ w. Some w };
 
+    ghost which = { λ _. 0 };
+
     ghost read_faults = { λ _. 0 };
 
     ghost write_faults = { λ _. 0 };
 
     fn fetch(&mut self, alloc: Global, name: &[u8]) -> Result<Option<Vec<u8>>, WorldError> {
-        let found = match files::find(&self.files, name) {
-            Some(bytes) => Some(Vec::from_slice(alloc, bytes)?),
-            None => None,
-        };
-        self.fetched = counted(self.fetched);
-        Ok(found)
+        Ok(self.read(alloc, name)?)
     }
 
     fn create(&mut self, name: &[u8]) -> Result<(), WorldError> {
-        files::put(&mut self.files, self.alloc, name, &[])?;
+        self.put(name, &[])?;
         Ok(())
     }
 
     fn append(&mut self, name: &[u8], bytes: &[u8]) -> Result<(), WorldError> {
-        files::add(&mut self.files, self.alloc, name, bytes)?;
+        self.add(name, bytes)?;
         Ok(())
     }
 
     fn show(&mut self, bytes: &[u8]) -> Result<(), WorldError> {
-        self.terminal.extend_from_slice(bytes)?;
+        self.print(bytes)?;
         Ok(())
     }
 }
 
-/// A counter after one more call. It stays at its last value.
-fn counted(count: u64) -> u64
-    ensures { result ≡ counted count }
-{
-    if count == u64::MAX { count } else { count + 1 }
-}
+/// A world that never fails tells all that it holds, and counts no fault. It does nothing when it
+/// runs: its clauses are what is proved.
+pub fn honest_world_laws()
+    ensures told { (t : Told) → ⟦<HonestWorld as World>⟧.told t ≡ Some t }
+    ensures read_faults { (t : Told) → ⟦<HonestWorld as World>⟧.read_faults t ≡ 0 }
+    ensures write_faults { (t : Told) → ⟦<HonestWorld as World>⟧.write_faults t ≡ 0 }
+{}

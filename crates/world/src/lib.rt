@@ -2,11 +2,13 @@
 //! the terminal's text (tex.web parts 3, 5 and 29 in this program's form).
 #![tactic(auto)]
 
+mod counts;
 mod disk;
 mod files;
 mod folder;
 mod honest;
 mod laws;
+mod memory;
 mod printer;
 mod strip;
 mod target;
@@ -16,8 +18,9 @@ mod whole;
 mod world;
 
 pub use folder::DirWorld;
-pub use honest::HonestWorld;
+pub use honest::{HonestWorld, honest_world_laws};
 pub use laws::printing_laws;
+pub use memory::{MemWorld, faulty_world_laws};
 pub use printer::Printer;
 pub use target::Target;
 pub use world::{World, WorldError, is_good_name};

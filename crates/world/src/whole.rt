@@ -1,17 +1,20 @@
-//! Whole files: all that a file has left is read, and all bytes are handed to a file.
+//! Whole files: all that a file has left is read, and all bytes are handed to a file or to the
+//! terminal.
 ghost use Rattle.std.specs.Prelude.{◌≡◌, ℕ, IfOk, IfSome, OnOk, OnErr, List, take};
 ghost use Rattle.std.specs.Io.KnownBytes.{Appends, Consumes, IsAtEnd};
 ghost use Rattle.std.specs.IoError.{error_kind};
+ghost use Rattle.world.specs.Asked.{bytes_read};
 ghost use Rattle.world.specs.InTurn.{ReadsAll, WritesAll};
 ghost use Rattle.world.specs.Refusal.{refusal_of};
+ghost use Rattle.world.specs.Trace.{Call, Did, contents_of};
 
-use crate::disk::Disk;
+use crate::disk::{Disk, Outlet};
 use crate::world::WorldError;
 use std::alloc::Global;
 use std::io::{Error, ErrorKind};
 
-/// How often a file is read before it is given up.
-const READ_TURNS: u64 = 1 << 40;
+/// How often a file is read, or written to, before it is given up.
+const TURNS: u64 = 1 << 40;
 
 /// How many bytes are read at a time.
 const CHUNK: usize = 8192;
@@ -26,21 +29,21 @@ pub fn refusal(error: Error) -> WorldError
     }
 }
 
-/// Reads a file until a read gives nothing.
-pub fn read_to_end<R: Disk>(
-    rt: &R,
+/// Reads a file until a read gives nothing. An interrupted read is made again.
+pub fn read_to_end<D: Disk>(
+    disk: &mut D,
     alloc: Global,
-    file: &mut R::File,
+    file: &mut D::File,
 ) -> Result<Vec<u8>, WorldError>
-    ensures calls { ReadsAll R.reads file.old result file.new }
-    ensures bytes { IfOk result (λ v. IfSome (R.File.remaining file.old) (λ bytes. v.items ≡ bytes)) }
-    ensures end { OnOk result (IsAtEnd (R.File.remaining file.new)) }
-    ensures refused { OnErr result ((read : List ℕ) × Consumes (R.File.remaining file.old) (R.File.remaining file.new) read) }
+    ensures calls { (calls : List (Call D.File)) × Did D.did disk.old calls disk.new × ReadsAll file.old calls (bytes_read result) }
+    ensures bytes { IfOk result (λ v. IfSome (D.remaining file.old) (λ bytes. v.items ≡ bytes)) }
+    ensures end { OnOk result (IsAtEnd (D.remaining file.new)) }
+    ensures refused { OnErr result ((read : List ℕ) × Consumes (D.remaining file.old) (D.remaining file.new) read) }
 {
     let mut bytes = Vec::new(alloc);
     let mut chunk = [0u8; CHUNK];
-    for _ in 0..READ_TURNS {
-        match rt.read_part(file, &mut chunk) {
+    for _ in 0..TURNS {
+        match disk.read_part(file, &mut chunk) {
             Ok(0) => return Ok(bytes),
             Ok(count) => bytes.extend_from_slice(&chunk[..count])?,
             Err(error) => match error.kind() {
@@ -52,18 +55,23 @@ pub fn read_to_end<R: Disk>(
     Err(WorldError::Failed)
 }
 
-/// Hands all bytes to a file, in order. After a refusal it has a first part of them.
-pub fn write_all<R: Disk>(rt: &R, file: &mut R::File, bytes: &[u8]) -> Result<(), WorldError>
-    ensures calls { WritesAll R.writes file.old bytes.now result file.new }
-    ensures taken { OnOk result (Appends (R.File.contents file.old) (R.File.contents file.new) bytes.now) }
-    ensures refused { OnErr result ((n : ℕ) × Appends (R.File.contents file.old) (R.File.contents file.new) (take n bytes.now)) }
+/// Hands over all bytes, in order. An interrupted write is made again. After a refusal the outlet
+/// has a first part of them.
+pub fn write_all<D: Disk>(
+    disk: &mut D,
+    outlet: &mut Outlet<D::File>,
+    bytes: &[u8],
+) -> Result<(), WorldError>
+    ensures calls { (calls : List (Call D.File)) × Did D.did disk.old calls disk.new × WritesAll outlet.old bytes.now calls result }
+    ensures taken { OnOk result (Appends (contents_of D.contents outlet.old) (contents_of D.contents outlet.new) bytes.now) }
+    ensures refused { OnErr result ((n : ℕ) × Appends (contents_of D.contents outlet.old) (contents_of D.contents outlet.new) (take n bytes.now)) }
 {
     let mut rest = bytes;
-    for _ in 0..u64::MAX {
+    for _ in 0..TURNS {
         if rest.is_empty() {
             return Ok(());
         }
-        match rt.write_part(file, rest) {
+        match disk.write_part(outlet, rest) {
             Ok(0) => return Err(WorldError::Failed),
             Ok(count) => rest = &rest[count..],
             Err(error) => match error.kind() {
@@ -72,5 +80,9 @@ pub fn write_all<R: Disk>(rt: &R, file: &mut R::File, bytes: &[u8]) -> Result<()
             },
         }
     }
-    Err(WorldError::Failed)
+    if rest.is_empty() {
+        Ok(())
+    } else {
+        Err(WorldError::Failed)
+    }
 }
