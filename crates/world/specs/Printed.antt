@@ -1,6 +1,6 @@
 -- What printed bytes look like on the terminal and in the log, as a strip: the bytes that appear
 -- there, and the column after them (tex.web 48, 54 to 60).
-use Rattle.std.specs.Prelude.{◌≡◌, ℕ, ℤ, pos, negsuc, ◌+◌, ◌/◌, ◌%◌, Bool, false, nat_lt, ◌==◌, if◌then◌else◌, List, [], ◌∷◌, ◌++◌, refl}
+use Rattle.std.specs.Prelude.{◌≡◌, ℕ, ℤ, pos, negsuc, ◌+◌, ◌/◌, ◌%◌, Bool, false, nat_lt, nat_le, not, ◌&&◌, ◌==◌, if◌then◌else◌, List, [], ◌∷◌, ◌++◌, refl}
 use Rattle.std.proofs.Common.{ap, sym, ◌∙◌, append_assoc}
 
 pub record Strip : Type 0 where
@@ -56,6 +56,10 @@ visible byte =
 abbrev pub is_newline : ℤ → ℕ → Bool
 is_newline (pos n) byte = n == byte
 is_newline (negsuc n) byte = false
+
+-- a byte that is shown as it is, and doesn't end the line
+abbrev pub is_plain : ℤ → ℕ → Bool
+is_plain newline byte = nat_le 32 byte && nat_le byte 126 && not (is_newline newline byte)
 
 -- one byte that is printed: it ends the line, or is shown. The bytes of its form aren't compared
 -- with \newlinechar again

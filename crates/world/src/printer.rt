@@ -60,8 +60,13 @@ impl Printer {
     {
         match to {
             Target::Both => {
-                self.terminal = append_printed(&mut self.unflushed, self.terminal, bytes, newline)?;
-                self.log = column_after(self.log, bytes, newline);
+                let after = append_printed(&mut self.unflushed, self.terminal, bytes, newline)?;
+                self.log = if self.log == self.terminal {
+                    after
+                } else {
+                    column_after(self.log, bytes, newline)
+                };
+                self.terminal = after;
             }
             Target::Log => self.log = column_after(self.log, bytes, newline),
             Target::Stream(_) => unreachable!(),

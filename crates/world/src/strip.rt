@@ -1,8 +1,9 @@
 //! The shape of printed bytes: line ends at \newlinechar and after the 79th byte of a line, and
 //! forms such as `^^M` for what can't be shown (tex.web 48, 54 to 60).
-ghost use Rattle.std.specs.Prelude.{◌≡◌, ℕ, ◌<◌, ◌++◌, length, IfOk, OnOk, OnErr};
+ghost use Rattle.std.specs.Prelude.{◌≡◌, ℕ, ◌+◌, ◌<◌, ◌≤◌, ◌++◌, length, take, drop, IsTrue, IfOk, OnOk, OnErr};
+ghost use Rattle.std.specs.List.{list_all};
 ghost use Rattle.std.specs.Io.{StartsWith};
-ghost use Rattle.world.specs.Printed.{byte_put, bytes_put, hex_digit, visible, is_newline, byte_printed, printed};
+ghost use Rattle.world.specs.Printed.{byte_put, bytes_put, hex_digit, visible, is_newline, is_plain, byte_printed, printed};
 
 use std::alloc::AllocError;
 
@@ -83,10 +84,60 @@ fn append_all(out: &mut Vec<u8>, column: u8, bytes: &[u8], newline: i32) -> Resu
     ensures err { OnErr result (StartsWith out.new.items out.old.items) }
 {
     let mut column = column;
-    for byte in bytes {
-        column = append_byte(out, column, *byte, newline)?;
+    let mut rest = bytes;
+    while !rest.is_empty() {
+        let run = append_run(out, column, rest, newline)?;
+        column += run as u8;
+        let (_, further) = rest.split_at(run);
+        rest = further;
+        if let Some((byte, further)) = rest.split_first() {
+            column = append_byte(out, column, *byte, newline)?;
+            rest = further;
+        }
     }
     Ok(column)
+}
+
+/// Adds the bytes in front that are shown as they are, as far as the line has room for one more
+/// behind them, and answers how many these are.
+fn append_run(
+    out: &mut Vec<u8>,
+    column: u8,
+    bytes: &[u8],
+    newline: i32,
+) -> Result<usize, AllocError>
+    requires { column < 79 }
+    ensures within { IfOk result (λ run. run ≤ length bytes.now) }
+    ensures room { IfOk result (λ run. column + run < 79) }
+    ensures bytes { IfOk result (λ run. out.new.items ++ (printed newline (drop run bytes.now) (column + run)).bytes ≡ out.old.items ++ (printed newline bytes.now column).bytes) }
+    ensures column { IfOk result (λ run. (printed newline (drop run bytes.now) (column + run)).column ≡ (printed newline bytes.now column).column) }
+    ensures added { StartsWith out.new.items out.old.items }
+{
+    let run = length_of_run(bytes, usize::from(LAST_COLUMN - column), newline);
+    let (plain, _) = bytes.split_at(run);
+    out.extend_from_slice(plain)?;
+    Ok(run)
+}
+
+/// How many of the bytes in front are shown as they are, `most` at most.
+fn length_of_run(bytes: &[u8], most: usize, newline: i32) -> usize
+    ensures within { result ≤ length bytes.now }
+    ensures bound { result ≤ most }
+    ensures plain { IsTrue (list_all (is_plain newline) (take result bytes.now)) }
+{
+    for (index, byte) in bytes.iter().enumerate() {
+        if index == most || !is_plain(newline, *byte) {
+            return index;
+        }
+    }
+    bytes.len()
+}
+
+/// Whether a byte is shown as it is, and doesn't end the line.
+fn is_plain(newline: i32, byte: u8) -> bool
+    ensures { result ≡ is_plain newline byte }
+{
+    byte >= 32 && byte <= 126 && !is_newline(newline, byte)
 }
 
 fn append_byte(out: &mut Vec<u8>, column: u8, byte: u8, newline: i32) -> Result<u8, AllocError>
