@@ -3,8 +3,12 @@
 //! them, and answers what is asked of quantities.
 #![tactic(auto)]
 
+pub use int_scan::IntScan;
 pub use number::{Number, Quantity};
 pub use verdict::{Phrase, Verdict};
 
+mod constant;
+mod int_scan;
 mod number;
+mod start;
 mod verdict;
