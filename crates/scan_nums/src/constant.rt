@@ -80,7 +80,9 @@ fn digit_of_character(radix: Radix, cat: u8, byte: u8) -> Option<u8>
 {
     if cat == OTHER && (b'0' <= byte && byte <= b'0' + last_figure(radix)) {
         Some(byte - b'0')
-    } else if has_letters(radix) && ((cat == LETTER || cat == OTHER) && (b'A' <= byte && byte <= b'F')) {
+    } else if has_letters(radix)
+        && ((cat == LETTER || cat == OTHER) && (b'A' <= byte && byte <= b'F'))
+    {
         Some(byte - 55)
     } else {
         None

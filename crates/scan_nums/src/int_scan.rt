@@ -8,12 +8,11 @@ ghost use Rattle.scan_nums.specs.Starts.{start_of};
 ghost use Rattle.scan_nums.specs.Taken.{Taken, Seen, Told, Resumed};
 ghost use Rattle.scan_nums.specs.WholeNumber.{whole_number, signed_number, constant_end, whole_of, with_sign};
 
-use crate::constant;
 use crate::constant::{Constant, GREATEST, Radix, TOO_BIG};
 use crate::number::Number;
-use crate::start;
 use crate::start::Start;
 use crate::verdict::{Phrase, Verdict};
+use crate::{constant, start};
 use tokens::{Kind, Meaning, Token};
 
 /// How far a whole number was read.
@@ -106,11 +105,17 @@ fn take_token(state: IntState, token: Token, meaning: &Meaning) -> (IntState, Ve
     ensures kept { WhileOpen result.1 (StateSteps state (Seen token meaning.now) result.0) }
 {
     match state {
-        IntState::Signs { negative } => begin(negative, start::start_of(token, meaning), token, meaning),
+        IntState::Signs { negative } => begin(
+            negative,
+            start::start_of(token, meaning),
+            token,
+            meaning,
+        ),
         IntState::Character { negative } => take_character(negative, token, meaning),
         IntState::Digits { negative, constant } => take_digit(negative, constant, token, meaning),
         IntState::Space { number } => end_by(number, token, meaning),
-        IntState::Asked { .. } | IntState::TooBig { .. } | IntState::Missing | IntState::Ended => unreachable!(),
+        IntState::Asked { .. } | IntState::TooBig { .. } | IntState::Missing | IntState::Ended =>
+            unreachable!(),
     }
 }
 
@@ -123,7 +128,12 @@ fn begin(negative: bool, start: Start, token: Token, meaning: &Meaning) -> (IntS
 {
     match start {
         Start::Space | Start::Plus => (IntState::Signs { negative }, Verdict::Need),
-        Start::Minus => (IntState::Signs { negative: !negative }, Verdict::Need),
+        Start::Minus => (
+            IntState::Signs {
+                negative: !negative,
+            },
+            Verdict::Need,
+        ),
         Start::Accent => (IntState::Character { negative }, Verdict::Need),
         Start::Octal => digits(negative, Radix::Base8),
         Start::Hexadecimal => digits(negative, Radix::Base16),
@@ -194,7 +204,12 @@ fn missing() -> (IntState, Verdict)
 }
 
 // The token behind digits or their mark.
-fn take_digit(negative: bool, constant: Constant, token: Token, meaning: &Meaning) -> (IntState, Verdict)
+fn take_digit(
+    negative: bool,
+    constant: Constant,
+    token: Token,
+    meaning: &Meaning,
+) -> (IntState, Verdict)
     ensures next { state_awaits result.0 ≡ awaited_after result.1 }
     ensures verdict { result.1 ≡ rest_of_constant constant.radix constant.has_digit constant.value (constant_end negative) (Seen token meaning.now ∷ []) }
     ensures kept { WhileOpen result.1 (StateSteps (IntState.Digits negative constant) (Seen token meaning.now) result.0) }

@@ -11,4 +11,6 @@ mod constant;
 mod int_scan;
 mod number;
 mod start;
+#[cfg(test)]
+mod tests;
 mod verdict;

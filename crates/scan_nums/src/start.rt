@@ -3,8 +3,7 @@ ghost use Rattle.std.specs.Prelude.{◌≡◌};
 ghost use Rattle.scan_nums.specs.Starts.{other_byte, byte_of, is_space, is_asked, start_of, start_of_meaning, start_of_primitive, start_of_register};
 
 use crate::number::Quantity;
-use tokens::codes;
-use tokens::{Meaning, RegKind, Token};
+use tokens::{Meaning, RegKind, Token, codes};
 
 /// The ways in which a number can begin, and what can stand in front of it.
 #[derive(Clone, Copy)]
@@ -102,7 +101,11 @@ fn start_of_meaning(meaning: &Meaning) -> Start
 {
     match meaning {
         Meaning::Primitive(code) => start_of_primitive(*code),
-        Meaning::Char { cat, byte: _ } => if *cat == SPACER { Start::Space } else { Start::Other },
+        Meaning::Char { cat, byte: _ } => if *cat == SPACER {
+            Start::Space
+        } else {
+            Start::Other
+        },
         Meaning::CharDef(byte) => Start::Given(u16::from(*byte)),
         Meaning::MathCharDef(number) => Start::Given(*number),
         Meaning::Register { kind, number } => start_of_register(*kind, *number),
