@@ -142,7 +142,7 @@ digit_kept negative constant digit t m state verdict h is_state is_verdict =
 
 -- ---- a digit that stands first
 
-while_open_along : (verdict : Verdict) (P Q : Type 0) → (P → Q) → WhileOpen verdict P → WhileOpen verdict Q
+pub while_open_along : (verdict : Verdict) (P Q : Type 0) → (P → Q) → WhileOpen verdict P → WhileOpen verdict Q
 while_open_along Need P Q f p = f p
 while_open_along (Ask quantity) P Q f p = f p
 while_open_along (Sub phrase) P Q f p = f p

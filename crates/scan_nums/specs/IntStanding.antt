@@ -11,7 +11,7 @@ use Rattle.scan_nums.specs.declared.int_scan.IntState.TheVariants.{Signs, Charac
 use Rattle.scan_nums.specs.Awaited.{Awaited, NextToken, Answer, Resumption, Nothing}
 use Rattle.scan_nums.specs.Taken.{Taken}
 use Rattle.scan_nums.specs.Constants.{character, rest_of_constant, optional_space, base, is_too_big}
-use Rattle.scan_nums.specs.WholeNumber.{whole_number, signed_number, constant_end, value_taken}
+use Rattle.scan_nums.specs.WholeNumber.{whole_number, are_leading, wants_character, signed_number, constant_end, value_taken}
 
 -- what the state waits for
 abbrev pub state_awaits : IntState → Awaited
@@ -37,11 +37,32 @@ state_rest (TooBig negative radix) x more =
 state_rest Missing x more = Done (number.Int (pos 0))
 state_rest Ended x more = Need
 
+abbrev pub is_at_signs : IntState → Bool
+is_at_signs (Signs negative) = true
+is_at_signs (Character negative) = false
+is_at_signs (Digits negative constant) = false
+is_at_signs (Space n) = false
+is_at_signs (Asked negative) = false
+is_at_signs (TooBig negative radix) = false
+is_at_signs Missing = false
+is_at_signs Ended = false
+
+abbrev pub is_at_character : IntState → Bool
+is_at_character (Signs negative) = false
+is_at_character (Character negative) = true
+is_at_character (Digits negative constant) = false
+is_at_character (Space n) = false
+is_at_character (Asked negative) = false
+is_at_character (TooBig negative radix) = false
+is_at_character Missing = false
+is_at_character Ended = false
+
 -- the state is one behind this list: whatever comes next, the grammar says of the whole what the state
--- says of the rest
-abbrev pub StateStands : IntState → List Taken → Type 0
-StateStands state taken =
-    (next : Taken) (more : List Taken) → whole_number (taken ++ next ∷ more) ≡ state_rest state next more
+-- says of the rest, and the next token is taken without expansion where the grammar says so
+pub record StateStands (state : IntState) (taken : List Taken) : Type 0 where
+  pub rest : (next : Taken) (more : List Taken) → whole_number (taken ++ next ∷ more) ≡ state_rest state next more
+  pub signs : is_at_signs state ≡ are_leading taken
+  pub character : is_at_character state ≡ wants_character taken
 
 -- one thing more was taken: what the grammar says of the rest, seen from the state before, is what it says
 -- seen from the state behind

@@ -1,6 +1,6 @@
 -- A whole number (The TeXbook, chapter 24: number; tex.web 440 to 446). The list is the whole of what was
 -- taken, the earliest first; the function says what is to be done then, up to the end of the number.
-use Rattle.std.specs.Prelude.{ℕ, Bool, true, false, ℤ, pos, neg_ℤ, Option, Some, None, List, [], ◌∷◌, if◌then◌else◌}
+use Rattle.std.specs.Prelude.{ℕ, Bool, true, false, ◌&&◌, ℤ, pos, neg_ℤ, Option, Some, None, List, [], ◌∷◌, if◌then◌else◌}
 use Rattle.tokens.specs.declared.token.Token.{Token}
 use Rattle.tokens.specs.declared.kind.Kind.TheVariants.{IncompatibleGlue}
 use Rattle.scan_nums.specs.declared.number.Number.{Number}
@@ -71,3 +71,32 @@ signed_number negative taken =
 -- a whole number
 abbrev pub whole_number : List Taken → Verdict
 whole_number taken = signed_number false taken
+
+-- ---- where a token is taken without expansion
+
+-- whether there are signs and spaces alone
+abbrev pub are_leading : List Taken → Bool
+are_leading [] = true
+are_leading (x ∷ xs) = is_leading x && are_leading xs
+
+abbrev pub is_accent_start : Start → Bool
+is_accent_start Space = false
+is_accent_start Plus = false
+is_accent_start Minus = false
+is_accent_start Accent = true
+is_accent_start Octal = false
+is_accent_start Hexadecimal = false
+is_accent_start (Given n) = false
+is_accent_start (Wanted q) = false
+is_accent_start (Expression k) = false
+is_accent_start Other = false
+
+abbrev pub is_accent : Taken → Bool
+is_accent x = is_accent_start (taken_start x)
+
+-- whether the next token is that of a character constant, which isn't expanded (tex.web 442): the mark of
+-- the constant is the last token, and signs and spaces stand in front of it
+abbrev pub wants_character : List Taken → Bool
+wants_character [] = false
+wants_character (x ∷ []) = is_accent x
+wants_character (x ∷ y ∷ ys) = is_leading x && wants_character (y ∷ ys)

@@ -1,12 +1,12 @@
 //! The automaton that reads a whole number (The TeXbook, chapter 24: number; `tex.web` 440 to 446).
-ghost use Rattle.std.specs.Prelude.{◌≡◌, List, [], ◌∷◌, ◌++◌, false};
+ghost use Rattle.std.specs.Prelude.{◌≡◌, List, [], ◌∷◌, ◌++◌, ◌&&◌, false};
 ghost use Rattle.scan_nums.specs.Awaited.{awaited_after, NextToken, Answer, Resumption, Nothing, WhileOpen};
-ghost use Rattle.scan_nums.specs.Constants.{character, rest_of_constant, optional_space};
-ghost use Rattle.scan_nums.specs.IntStanding.{state_awaits, state_rest, StateSteps, grown_state, grown_verdict};
+ghost use Rattle.scan_nums.specs.Constants.{is_leading, character, rest_of_constant, optional_space};
+ghost use Rattle.scan_nums.specs.IntStanding.{is_at_signs, is_at_character, state_awaits, state_rest, StateSteps, grown_state, grown_verdict};
 ghost use Rattle.scan_nums.specs.Number.{IsNegatable, IsAboveLowest};
 ghost use Rattle.scan_nums.specs.Starts.{start_of};
 ghost use Rattle.scan_nums.specs.Taken.{Taken, Seen, Told, Resumed};
-ghost use Rattle.scan_nums.specs.WholeNumber.{whole_number, signed_number, constant_end, whole_of, with_sign};
+ghost use Rattle.scan_nums.specs.WholeNumber.{whole_number, wants_character, is_accent, signed_number, constant_end, whole_of, with_sign};
 
 use crate::constant::{Constant, GREATEST, Radix, TOO_BIG};
 use crate::number::Number;
@@ -60,6 +60,14 @@ impl IntScan {
         }
     }
 
+    /// Whether the next token is that of a character constant, which is taken without expansion. A name of
+    /// one byte is handed in as a character of category 12.
+    pub fn wants_character(&self) -> bool
+        ensures { (taken : List Taken) → Stands self.now taken → result ≡ wants_character taken }
+    {
+        is_character(self.state)
+    }
+
     /// Takes the next token, expanded, with its meaning.
     pub fn take(&mut self, token: Token, meaning: &Meaning) -> Verdict
         requires { awaits self.old ≡ NextToken }
@@ -98,11 +106,28 @@ impl IntScan {
     }
 }
 
+fn is_character(state: IntState) -> bool
+    ensures { result ≡ is_at_character state }
+{
+    match state {
+        IntState::Character { .. } => true,
+        IntState::Signs { .. }
+        | IntState::Digits { .. }
+        | IntState::Space { .. }
+        | IntState::Asked { .. }
+        | IntState::TooBig { .. }
+        | IntState::Missing
+        | IntState::Ended => false,
+    }
+}
+
 fn take_token(state: IntState, token: Token, meaning: &Meaning) -> (IntState, Verdict)
     requires { state_awaits state ≡ NextToken }
     ensures next { state_awaits result.0 ≡ awaited_after result.1 }
     ensures verdict { result.1 ≡ state_rest state (Seen token meaning.now) [] }
     ensures kept { WhileOpen result.1 (StateSteps state (Seen token meaning.now) result.0) }
+    ensures signs { is_at_signs result.0 ≡ (is_at_signs state && is_leading (Seen token meaning.now)) }
+    ensures character { is_at_character result.0 ≡ (is_at_signs state && is_accent (Seen token meaning.now)) }
 {
     match state {
         IntState::Signs { negative } => begin(
@@ -125,6 +150,8 @@ fn begin(negative: bool, start: Start, token: Token, meaning: &Meaning) -> (IntS
     ensures next { state_awaits result.0 ≡ awaited_after result.1 }
     ensures verdict { result.1 ≡ signed_number negative (Seen token meaning.now ∷ []) }
     ensures kept { WhileOpen result.1 (StateSteps (IntState.Signs negative) (Seen token meaning.now) result.0) }
+    ensures signs { is_at_signs result.0 ≡ is_leading (Seen token meaning.now) }
+    ensures character { is_at_character result.0 ≡ is_accent (Seen token meaning.now) }
 {
     match start {
         Start::Space | Start::Plus => (IntState::Signs { negative }, Verdict::Need),
@@ -177,6 +204,8 @@ fn take_character(negative: bool, token: Token, meaning: &Meaning) -> (IntState,
     ensures next { state_awaits result.0 ≡ awaited_after result.1 }
     ensures verdict { result.1 ≡ character (constant_end negative) (Seen token meaning.now ∷ []) }
     ensures kept { WhileOpen result.1 (StateSteps (IntState.Character negative) (Seen token meaning.now) result.0) }
+    ensures signs { is_at_signs result.0 ≡ false }
+    ensures character { is_at_character result.0 ≡ false }
 {
     match start::byte_of(token) {
         Some(byte) => (
@@ -213,6 +242,8 @@ fn take_digit(
     ensures next { state_awaits result.0 ≡ awaited_after result.1 }
     ensures verdict { result.1 ≡ rest_of_constant constant.radix constant.has_digit constant.value (constant_end negative) (Seen token meaning.now ∷ []) }
     ensures kept { WhileOpen result.1 (StateSteps (IntState.Digits negative constant) (Seen token meaning.now) result.0) }
+    ensures signs { is_at_signs result.0 ≡ false }
+    ensures character { is_at_character result.0 ≡ false }
 {
     match constant::digit_of(constant.radix, token) {
         Some(digit) => grow(negative, constant, digit),
@@ -230,6 +261,8 @@ fn take_digit(
 fn grow(negative: bool, constant: Constant, digit: u8) -> (IntState, Verdict)
     ensures state { result.0 ≡ grown_state negative constant digit }
     ensures verdict { result.1 ≡ grown_verdict constant digit }
+    ensures signs { is_at_signs result.0 ≡ false }
+    ensures character { is_at_character result.0 ≡ false }
 {
     let grown = constant.with_digit(digit);
     if constant.value <= GREATEST && grown.value > GREATEST {
@@ -274,6 +307,8 @@ fn take_value(state: IntState, n: Number) -> (IntState, Verdict)
     ensures next { state_awaits result.0 ≡ awaited_after result.1 }
     ensures verdict { result.1 ≡ state_rest state (Told n) [] }
     ensures kept { WhileOpen result.1 (StateSteps state (Told n) result.0) }
+    ensures signs { is_at_signs result.0 ≡ (is_at_signs state && is_leading (Told n)) }
+    ensures character { is_at_character result.0 ≡ (is_at_signs state && is_accent (Told n)) }
 {
     match state {
         IntState::Asked { negative } => (IntState::Ended, whole(negative, n)),
@@ -313,6 +348,8 @@ fn go_on(state: IntState) -> (IntState, Verdict)
     ensures next { state_awaits result.0 ≡ awaited_after result.1 }
     ensures verdict { result.1 ≡ state_rest state Resumed [] }
     ensures kept { WhileOpen result.1 (StateSteps state Resumed result.0) }
+    ensures signs { is_at_signs result.0 ≡ (is_at_signs state && is_leading Resumed) }
+    ensures character { is_at_character result.0 ≡ (is_at_signs state && is_accent Resumed) }
 {
     match state {
         IntState::TooBig { negative, radix } => (
