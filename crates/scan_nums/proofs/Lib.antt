@@ -1,2 +1,3 @@
 pub mod ConstantLaws
+mod Examples
 pub mod IntLaws

@@ -1,6 +1,6 @@
 -- What a state of the automaton for whole numbers stands for: the lists behind which the number goes on as
 -- the state says.
-use Rattle.std.specs.Prelude.{◌≡◌, ℕ, ◌+◌, ◌*◌, min, Bool, true, false, ◌&&◌, not, pos, List, [], ◌∷◌, ◌++◌, if◌then◌else◌}
+use Rattle.std.specs.Prelude.{◌≡◌, ℕ, ◌+◌, ◌*◌, min, Bool, true, false, ◌&&◌, not, pos, List, ◌∷◌, ◌++◌, if◌then◌else◌}
 use Rattle.scan_nums.specs.declared.number.Number.TheVariants as number
 use Rattle.scan_nums.specs.declared.verdict.Verdict.{Verdict}
 use Rattle.scan_nums.specs.declared.verdict.Verdict.TheVariants.{Need, Done, Pass}

@@ -1,7 +1,9 @@
 -- What a token is where a number may begin (The TeXbook, chapter 24: number, unsigned number, internal
 -- quantities; tex.web 413 and 440 to 444). Characters with a part in a number count by the token itself, all
 -- else by its meaning.
-use Rattle.std.specs.Prelude.{ℕ, ◌-◌, Bool, false, ◌==◌, ◌&&◌, ◌||◌, nat_le, Option, Some, None, if◌then◌else◌}
+use Rattle.std.specs.Prelude.{◌≡◌, ℕ, ◌-◌, Bool, false, ◌==◌, ◌&&◌, ◌||◌, nat_le, Option, Some, None, [], ◌∷◌, map, codes, if◌then◌else◌}
+use Rattle.tokens.specs.Names.{name_at}
+use Rattle.tokens.specs.Primitives.{primitive_names}
 use Rattle.tokens.specs.declared.token.Token.{Token}
 use Rattle.tokens.specs.declared.token.Token.TheVariants as token
 use Rattle.tokens.specs.declared.meaning.Meaning.{Meaning}
@@ -59,6 +61,14 @@ is_asked code =
 -- \numexpr to \muexpr
 abbrev pub is_expression : ℕ → Bool
 is_expression code = is_from_to 338 341 code
+
+-- the names at the ends of these ranges
+abbrev pub AskedByName : Type 0
+AskedByName =
+    map (name_at primitive_names) (37 ∷ 130 ∷ 140 ∷ 143 ∷ 145 ∷ 156 ∷ 160 ∷ 178 ∷ 342 ∷ 373 ∷ 338 ∷ 341 ∷ [])
+    ≡ codes "pretolerance" ∷ codes "thickmuskip" ∷ codes "count" ∷ codes "muskip" ∷ codes "wd" ∷ codes "skewchar"
+    ∷ codes "parshape" ∷ codes "badness" ∷ codes "gluestretch" ∷ codes "savinghyphcodes" ∷ codes "numexpr"
+    ∷ codes "muexpr" ∷ []
 
 abbrev pub start_of_primitive : ℕ → Start
 start_of_primitive code =

@@ -1,7 +1,6 @@
 -- A whole number (The TeXbook, chapter 24: number; tex.web 440 to 446). The list is the whole of what was
 -- taken, the earliest first; the function says what is to be done then, up to the end of the number.
 use Rattle.std.specs.Prelude.{ℕ, Bool, true, false, ◌&&◌, ℤ, pos, neg_ℤ, Option, Some, None, List, [], ◌∷◌, if◌then◌else◌}
-use Rattle.tokens.specs.declared.token.Token.{Token}
 use Rattle.tokens.specs.declared.kind.Kind.TheVariants.{IncompatibleGlue}
 use Rattle.scan_nums.specs.declared.number.Number.{Number}
 use Rattle.scan_nums.specs.declared.number.Number.TheVariants as number

@@ -9,6 +9,7 @@ pub use verdict::{Phrase, Verdict};
 
 mod constant;
 mod int_scan;
+pub mod laws;
 mod number;
 mod start;
 #[cfg(test)]
