@@ -1,0 +1,3 @@
+pub mod ConstantLaws
+mod Examples
+pub mod IntLaws

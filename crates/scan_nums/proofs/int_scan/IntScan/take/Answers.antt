@@ -1,0 +1,13 @@
+-- What is handed in leads from a state to one that stands for the longer list.
+use Rattle.scan_nums.specs.Taken.{Seen}
+use Rattle.scan_nums.proofs.IntLaws.{kept_behind, verdict_behind}
+use Rattle.scan_nums.proofs.int_scan.IntScan.take.Goals as goal
+
+pub returns-clause-verdict : goal.returns-clause-verdict
+returns-clause-verdict c = λ taken stands.
+    verdict_behind c.take_token-state.result.1 c.args.self.now.state (Seen c.args.token c.args.meaning.now) taken c.take_token-state.ensures.verdict stands
+
+pub returns-clause-kept : goal.returns-clause-kept
+returns-clause-kept c = λ taken stands.
+    kept_behind c.take_token-state.result.1 c.args.self.now.state c.take_token-state.result.0 (Seen c.args.token c.args.meaning.now) taken c.take_token-state.ensures.signs c.take_token-state.ensures.character stands
+    c.take_token-state.ensures.kept
