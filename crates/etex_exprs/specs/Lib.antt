@@ -1,0 +1,6 @@
+pub mod TermTreeMarks
+pub mod TermTreeParts
+pub mod TermTree
+pub mod TermTreeReading
+pub mod Steps
+pub mod Standing
