@@ -1,5 +1,6 @@
 -- What is kept by values goes on as the trees do.
-use Rattle.std.proofs.Common.{◌≡◌, ℕ, Bool, true, false, ◌&&◌, ℤ, pos, List, [], ◌∷◌, ◌++◌, ⊤, ⊥, Option, Some, None, option_and_then, refl, sym, ap, subst, ◌∙◌, if◌then◌else◌}
+use Rattle.std.proofs.Common.{◌≡◌, ℕ, Bool, true, false, ◌&&◌, ℤ, pos, List, [], ◌∷◌, ◌++◌, Option, Some, None, option_and_then, refl, sym, ap, subst, ◌∙◌, if◌then◌else◌}
+use Rattle.std.specs.Prelude.{⊤}
 use Rattle.std.specs.Option.{option_map, option_map_or, is_some}
 use Rattle.scaled.specs.declared.spacing.Glue.{Glue}
 use Rattle.etex_exprs.specs.declared.sort.Sort.{Sort}
@@ -18,7 +19,7 @@ use Rattle.etex_exprs.specs.Standing.{front_kept, product_kept, level_kept, oute
 
 -- ---- values that are there
 
-some_of : {A : Type 0} → (x y : A) → Some x ≡ Some y → x ≡ y
+pub some_of : {A : Type 0} → (x y : A) → Some x ≡ Some y → x ≡ y
 some_of x y e = cc
 
 and_then-Some : {A : Type 0} → (v : Option A) → option_and_then Some v ≡ v

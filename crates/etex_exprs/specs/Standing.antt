@@ -68,9 +68,24 @@ kept nothing = None
 
 -- ---- which lists an automaton stands for
 
+-- an expression in parentheses is of the sort of the factor that it stands for
+abbrev pub AreNested : Unfinished → List Unfinished → Type 0
+AreNested u [] = ⊤
+AreNested u (o ∷ us) = (u.sort ≡ tree.factor_sort o) × AreNested o us
+
+abbrev pub IsNested : Reading → Type 0
+IsNested (before u us) = AreNested u us
+IsNested (begun u us m) = AreNested u us
+IsNested (behind u us f) = AreNested u us
+IsNested (end sort s m) = ⊤
+IsNested (unclosed u o us f m) = ⊤
+IsNested (mixed u us m n) = ⊤
+IsNested nothing = ⊤
+
 -- all this was taken by an automaton for this sort that has come to this state
-abbrev pub Stands : State → Sort → List Taken → Type 0
-Stands state sort taken = kept (reading sort taken) ≡ Some state
+pub record Stands (state : State) (sort : Sort) (taken : List Taken) : Type 0 where
+  pub kept_is : kept (reading sort taken) ≡ Some state
+  pub nested : IsNested (reading sort taken)
 
 -- the automaton stands for the list, where it is not at its end
 abbrev pub StandsUnlessEnded : Verdict → State → Sort → List Taken → Type 0

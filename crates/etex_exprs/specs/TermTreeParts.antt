@@ -65,7 +65,7 @@ glue_of width stretch stretch_order shrink shrink_order = record {
 }
 
 -- the glue of these parts, with another's orders, where each part is there
-abbrev pub with_parts : Glue → Option ℤ → Option ℤ → Option ℤ → Option Glue
+unfoldable pub with_parts : Glue → Option ℤ → Option ℤ → Option ℤ → Option Glue
 with_parts g widths stretches shrinks =
     option_and_then (λ width. option_and_then (λ stretch. option_map (λ shrink.
     glue_of width stretch g.stretch_order shrink g.shrink_order) shrinks) stretches) widths
@@ -75,19 +75,23 @@ abbrev pub on_parts : (ℤ → Option ℤ) → Glue → Option Glue
 on_parts f g = with_parts g (f g.width) (f g.stretch) (f g.shrink)
 
 -- the product of a glue and a whole number
-abbrev pub multiplied : ℤ → Glue → ℤ → Option Glue
+unfoldable pub multiplied : ℤ → Glue → ℤ → Option Glue
 multiplied bound g n = on_parts (λ x. within bound (x *ℤ n)) g
 
+-- the quotient of a part
+unfoldable pub quotient_of : ℤ → ℤ → ℤ → Option ℤ
+quotient_of bound x n = option_and_then (within bound) (nearest_quotient x n)
+
 -- the quotient, rounded to the nearest, halves away from zero; nothing where the divisor is 0
-abbrev pub divided : ℤ → Glue → ℤ → Option Glue
-divided bound g n = on_parts (λ x. option_and_then (within bound) (nearest_quotient x n)) g
+unfoldable pub divided : ℤ → Glue → ℤ → Option Glue
+divided bound g n = on_parts (λ x. quotient_of bound x n) g
 
 -- the product of a glue and n divided by d, rounded once
-abbrev pub scaled_by : ℤ → Glue → ℤ → ℤ → Option Glue
+unfoldable pub scaled_by : ℤ → Glue → ℤ → ℤ → Option Glue
 scaled_by bound g n d = on_parts (λ x. fraction_of x n d bound) g
 
 -- the negative of a glue
-abbrev pub negated : ℤ → Glue → Option Glue
+unfoldable pub negated : ℤ → Glue → Option Glue
 negated bound g = on_parts (λ x. within bound (neg_ℤ x)) g
 
 -- an order's rank
@@ -114,32 +118,32 @@ abbrev pub Part : Type 0
 Part = ℤ × Order
 
 -- the sum of two: where their orders differ, the higher one stays alone
-abbrev pub part_sum : ℤ → ℤ → Order → ℤ → Order → Option Part
+unfoldable pub part_sum : ℤ → ℤ → Order → ℤ → Order → Option Part
 part_sum bound x order y other =
     if is_below (order_of x order) (order_of y other) then Some (y, order_of y other)
     else (if is_below (order_of y other) (order_of x order) then Some (x, order_of x order)
     else option_map (λ n. (n, order_of n (order_of x order))) (within bound (x +ℤ y)))
 
 -- the glue of a width, a stretch and a shrink, where each is there
-abbrev pub of_parts : Option ℤ → Option Part → Option Part → Option Glue
+unfoldable pub of_parts : Option ℤ → Option Part → Option Part → Option Glue
 of_parts widths stretches shrinks =
     option_and_then (λ width. option_and_then (λ stretch. option_map (λ shrink.
     record { width = width; stretch = stretch.0; stretch_order = stretch.1; shrink = shrink.0; shrink_order = shrink.1 })
     shrinks) stretches) widths
 
 -- the sum of two glues
-abbrev pub glue_sum : ℤ → Glue → Glue → Option Glue
+unfoldable pub glue_sum : ℤ → Glue → Glue → Option Glue
 glue_sum bound g h =
     of_parts (within bound (g.width +ℤ h.width))
     (part_sum bound g.stretch g.stretch_order h.stretch h.stretch_order)
     (part_sum bound g.shrink g.shrink_order h.shrink h.shrink_order)
 
 -- the difference is the sum with the negative of the second
-abbrev pub glue_difference : ℤ → Glue → Glue → Option Glue
+unfoldable pub glue_difference : ℤ → Glue → Glue → Option Glue
 glue_difference bound g h = option_and_then (glue_sum bound g) (negated bound h)
 
 -- a value each part of which lies within the bound, whatever the orders
-abbrev pub checked : ℤ → Glue → Option Glue
+unfoldable pub checked : ℤ → Glue → Option Glue
 checked bound g =
     if is_some (within bound g.width) && (is_some (within bound g.stretch) && is_some (within bound g.shrink))
     then Some g

@@ -140,8 +140,8 @@ read_before u us Other = begun u us Other
 -- the value of an operand
 abbrev pub read_value : Unfinished → List Unfinished → Mark → Number → Reading
 read_value u us m n =
-    if is_of_phrase (phrase_of (factor_sort u)) n then behind u us (operand m n)
-    else (if is_mixed (phrase_of (factor_sort u)) n then mixed u us m n else nothing)
+    if is_mixed (phrase_of (factor_sort u)) n then mixed u us m n
+    else (if is_of_phrase (phrase_of (factor_sort u)) n then behind u us (operand m n) else nothing)
 
 abbrev pub read : Reading → Word → Reading
 read (before u us) (Said m) = read_before u us m

@@ -2,7 +2,7 @@
 ghost use Rattle.std.specs.Prelude.{◌≡◌, ◌+ℤ◌, ◌*ℤ◌, neg_ℤ, option_and_then};
 ghost use Rattle.std.specs.Option.{is_some};
 ghost use Rattle.scaled.specs.ArithmeticQuotients.{within, nearest_quotient, fraction_of};
-ghost use Rattle.etex_exprs.specs.TermTreeParts.{order_of, glue_of, with_parts, of_parts, multiplied, divided, scaled_by, negated, is_below, part_sum, glue_sum, glue_difference, checked, is_mixed};
+ghost use Rattle.etex_exprs.specs.TermTreeParts.{order_of, glue_of, with_parts, of_parts, quotient_of, multiplied, divided, scaled_by, negated, is_below, part_sum, glue_sum, glue_difference, checked, is_mixed};
 
 use scaled::{Glue, Order, fraction, nearest};
 use scan_nums::{Number, Phrase};
@@ -25,8 +25,9 @@ fn product(bound: i32, x: i32, y: i32) -> Option<i32>
     within(bound, i128::from(x) * i128::from(y))
 }
 
+#[tactic(auto, unfolding(crate::specs::TermTreeParts::quotient_of))]
 fn quotient(bound: i32, x: i32, divisor: i32) -> Option<i32>
-    ensures { result ≡ option_and_then (within bound) (nearest_quotient x divisor) }
+    ensures { result ≡ quotient_of bound x divisor }
 {
     match nearest(i128::from(x), i128::from(divisor)) {
         Some(number) => within(bound, number),
@@ -66,6 +67,7 @@ fn glue_of(width: i32, stretch: i32, stretch_order: Order, shrink: i32, shrink_o
 }
 
 // The glue of these parts, with the orders of another.
+#[tactic(auto, unfolding(crate::specs::TermTreeParts::with_parts))]
 fn with_parts(glue: Glue, width: Option<i32>, stretch: Option<i32>, shrink: Option<i32>) -> Option<Glue>
     ensures { result ≡ with_parts glue width stretch shrink }
 {
@@ -76,6 +78,7 @@ fn with_parts(glue: Glue, width: Option<i32>, stretch: Option<i32>, shrink: Opti
 }
 
 /// The product of a glue and a whole number, where each part is within the bound.
+#[tactic(auto, unfolding(crate::specs::TermTreeParts::multiplied))]
 pub fn multiplied(bound: i32, glue: Glue, n: i32) -> Option<Glue>
     ensures { result ≡ multiplied bound glue n }
 {
@@ -87,6 +90,7 @@ pub fn multiplied(bound: i32, glue: Glue, n: i32) -> Option<Glue>
 
 /// The quotient of a glue by a whole number, rounded to the nearest, halves away from zero. It is `None`
 /// where the divisor is 0.
+#[tactic(auto, unfolding(crate::specs::TermTreeParts::divided))]
 pub fn divided(bound: i32, glue: Glue, divisor: i32) -> Option<Glue>
     ensures { result ≡ divided bound glue divisor }
 {
@@ -97,6 +101,7 @@ pub fn divided(bound: i32, glue: Glue, divisor: i32) -> Option<Glue>
 }
 
 /// The product of a glue and `n` divided by `divisor`, rounded once from the exact product.
+#[tactic(auto, unfolding(crate::specs::TermTreeParts::scaled_by))]
 pub fn scaled_by(bound: i32, glue: Glue, n: i32, divisor: i32) -> Option<Glue>
     ensures { result ≡ scaled_by bound glue n divisor }
 {
@@ -106,6 +111,7 @@ pub fn scaled_by(bound: i32, glue: Glue, n: i32, divisor: i32) -> Option<Glue>
     with_parts(glue, width, stretch, shrink)
 }
 
+#[tactic(auto, unfolding(crate::specs::TermTreeParts::negated))]
 fn negated(bound: i32, glue: Glue) -> Option<Glue>
     ensures { result ≡ negated bound glue }
 {
@@ -127,6 +133,7 @@ fn is_below(order: Order, other: Order) -> bool
 }
 
 // The sum of two stretches or shrinks: where their orders differ, the higher one stays alone.
+#[tactic(auto, unfolding(crate::specs::TermTreeParts::part_sum))]
 fn part_sum(bound: i32, x: i32, order: Order, y: i32, other: Order) -> Option<(i32, Order)>
     ensures { result ≡ part_sum bound x order y other }
 {
@@ -142,6 +149,7 @@ fn part_sum(bound: i32, x: i32, order: Order, y: i32, other: Order) -> Option<(i
     Some((amount, order_of(amount, order)))
 }
 
+#[tactic(auto, unfolding(crate::specs::TermTreeParts::of_parts))]
 fn of_parts(width: Option<i32>, stretch: Option<(i32, Order)>, shrink: Option<(i32, Order)>) -> Option<Glue>
     ensures { result ≡ of_parts width stretch shrink }
 {
@@ -158,6 +166,7 @@ fn of_parts(width: Option<i32>, stretch: Option<(i32, Order)>, shrink: Option<(i
 }
 
 /// The sum of two glues.
+#[tactic(auto, unfolding(crate::specs::TermTreeParts::glue_sum))]
 pub fn glue_sum(bound: i32, glue: Glue, other: Glue) -> Option<Glue>
     ensures { result ≡ glue_sum bound glue other }
 {
@@ -168,6 +177,7 @@ pub fn glue_sum(bound: i32, glue: Glue, other: Glue) -> Option<Glue>
 }
 
 /// The sum of a glue and the negative of another.
+#[tactic(auto, unfolding(crate::specs::TermTreeParts::glue_difference))]
 pub fn glue_difference(bound: i32, glue: Glue, other: Glue) -> Option<Glue>
     ensures { result ≡ glue_difference bound glue other }
 {
@@ -181,6 +191,7 @@ fn is_within(bound: i32, number: i32) -> bool
 }
 
 /// The glue, where each part is within the bound.
+#[tactic(auto, unfolding(crate::specs::TermTreeParts::checked))]
 pub fn checked(bound: i32, glue: Glue) -> Option<Glue>
     ensures { result ≡ checked bound glue }
 {
