@@ -1,6 +1,7 @@
 -- The automaton's steps are what the trees say.
 use Rattle.std.proofs.Common.{◌≡◌, ℕ, Bool, true, false, ◌&&◌, ◌||◌, IsTrue, ℤ, pos, List, [], ◌∷◌, ◌++◌, Option, Some, None, option_and_then, refl, sym, ap, subst, ◌∙◌, if◌then◌else◌}
-use Rattle.std.specs.Prelude.{⊤}
+use Rattle.std.specs.Prelude.{⊤, Result, Ok, Err, IfOk}
+use Rattle.std.specs.declared.alloc.AllocError.{AllocError}
 use Rattle.std.specs.Option.{option_map, option_map_or, is_some}
 use Rattle.scaled.specs.declared.spacing.Glue.{Glue}
 use Rattle.tokens.specs.declared.token.Token.{Token}
@@ -431,7 +432,7 @@ step_holds nothing s m e n h = cc
 chosen : (b a : Bool) (x y : Reading) (s t : Step) → IsTrue (a || b) → Holds x s → Holds y t → Holds (if b then x else (if a then y else nothing)) (if b then s else t)
 chosen true a x y s t h first second = first
 chosen false true x y s t h first second = second
-chosen false false x y s t h first second = absurd h
+chosen false false x y s t h first second = cc
 
 answer_steps : (u : Unfinished) (us : List Unfinished) (q : lead.Lead) (p : product.Product) (ls : List Level) (m : Mark) (n : Number) → Keeps u us q p ls
     → IsAnswer (state_of (level_of u q p) ls Begun) n → Holds (read_value u us m n) (steps.step_answer (state_of (level_of u q p) ls Begun) n)
@@ -577,3 +578,18 @@ at_ready l ls Ended m h = absurd h
 
 pub take_ready : (old new : State) (v : Verdict) (m : Mark) → WantsToken old → steps.Did (step_of old m) v new → IsReady v new
 take_ready old new v m h d = ready_of (step_of old m) v new (at_ready old.level old.outer old.place m h) d
+
+-- ---- the same of a result
+
+pub take_value : (r : Result Verdict AllocError) (old new : State) (k : Mark) (t : Token) (m : Meaning) → k ≡ mark_of t m → WantsToken old
+    → IfOk r (λ v. steps.Did (step_of old k) v new)
+    → IfOk r (λ v. (sort : Sort) (taken : List Taken) → Stands old sort taken → Says v new sort (taken ++ Seen t m ∷ []))
+take_value (Ok v) old new k t m e w d =
+    let P : Mark → Type 0 = λ x. steps.Did (step_of old x) v new in
+    take_says old new v t m w (subst P e d)
+take_value (Err x) old new k t m e w d = tt
+
+pub take_is_ready : (r : Result Verdict AllocError) (old new : State) (k : Mark) → WantsToken old
+    → IfOk r (λ v. steps.Did (step_of old k) v new) → IfOk r (λ v. IsReady v new)
+take_is_ready (Ok v) old new k w d = take_ready old new v k w d
+take_is_ready (Err x) old new k w d = tt
