@@ -1,2 +1,4 @@
 pub mod KeptLaws
 pub mod StepLaws
+pub mod WordLaws
+pub mod ExampleLaws

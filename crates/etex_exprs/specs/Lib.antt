@@ -4,3 +4,5 @@ pub mod TermTree
 pub mod TermTreeReading
 pub mod Steps
 pub mod Standing
+pub mod TermTreeLaws
+pub mod TermTreeExamples

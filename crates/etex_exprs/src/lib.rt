@@ -5,6 +5,7 @@
 pub use scan::ExprScan;
 pub use scan_nums::{Number, Phrase, Quantity, Verdict};
 
+pub mod laws;
 mod level;
 mod mark;
 mod parts;

@@ -1,0 +1,15 @@
+//! Laws of the definitions: functions that do nothing and promise them.
+ghost use Rattle.etex_exprs.specs.TermTreeExamples.{WorkedExpressions};
+ghost use Rattle.etex_exprs.specs.TermTreeLaws.{WordsAreRead};
+
+/// What was read of a list is written with the list's words: no word is lost or changed but blanks.
+pub fn words_are_read()
+    ensures { WordsAreRead }
+{
+}
+
+/// Expressions and their values, worked out by the definitions.
+pub fn worked_expressions()
+    ensures { WorkedExpressions }
+{
+}
