@@ -118,16 +118,21 @@ before_holds u us q p ls k =
 
 begun_holds : (u : Unfinished) (us : List Unfinished) (q : lead.Lead) (p : product.Product) (ls : List Level) (m : Mark) → Keeps u us q p ls
     → Holds (begun u us m) (asks (state_of (level_of u q p) ls Begun) (steps.factor_sort (level_of u q p)))
-begun_holds u us q p ls m k =
-    (ap Some (if_true (has_values u && all_have_values us) (Sub (phrase_of (tree.factor_sort u))) overflow (values_there u us q p ls k))
-    ∙ ap (λ s. Some (Sub (phrase_of s))) (sort_kept u.product u.sort p k.product), levels_are u us q p ls Begun k, k.nested)
+begun_holds u us q p ls m k = (
+  ap Some (if_true (has_values u && all_have_values us) (Sub (phrase_of (tree.factor_sort u))) overflow (values_there u us q p ls k))
+      ∙ ap (λ s. Some (Sub (phrase_of s))) (sort_kept u.product u.sort p k.product),
+  levels_are u us q p ls Begun k,
+  k.nested,
+)
 
 behind_holds : (u : Unfinished) (us : List Unfinished) (q : lead.Lead) (p : product.Product) (ls : List Level) (f : Factor) (g : Glue) → Keeps u us q p ls
     → factor_value f (tree.factor_sort u) ≡ Some g → Holds (behind u us f) (goes (state_of (level_of u q p) ls (Behind g)))
-behind_holds u us q p ls f g k e =
-    (ap Some (if_true ((has_values u && all_have_values us) && is_some (factor_value f (tree.factor_sort u))) Need overflow
-    (ap (λ b. b && is_some (factor_value f (tree.factor_sort u))) (values_there u us q p ls k) ∙ is_some-along (factor_value f (tree.factor_sort u)) g e)),
-    and_then-along (λ g. levels_kept u us (Behind g)) (factor_value f (tree.factor_sort u)) g e ∙ levels_are u us q p ls (Behind g) k, k.nested)
+behind_holds u us q p ls f g k e = (
+  ap Some (if_true ((has_values u && all_have_values us) && is_some (factor_value f (tree.factor_sort u))) Need overflow
+      (ap (λ b. b && is_some (factor_value f (tree.factor_sort u))) (values_there u us q p ls k) ∙ is_some-along (factor_value f (tree.factor_sort u)) g e)),
+  and_then-along (λ g. levels_kept u us (Behind g)) (factor_value f (tree.factor_sort u)) g e ∙ levels_are u us q p ls (Behind g) k,
+  k.nested,
+)
 
 -- ---- in front of an operand
 
@@ -198,9 +203,11 @@ no_value false b = refl
 close_case : (o : Unfinished) (us : List Unfinished) (q : lead.Lead) (p : product.Product) (ls : List Level) (s : Sum) (w : Option Glue) → Keeps o us q p ls
     → factor_value (enclosed s) (tree.factor_sort o) ≡ w
     → Holds (behind o us (enclosed s)) (option_map_or (λ v. goes (state_of (level_of o q p) ls (Behind v))) w (stops overflow))
-close_case o us q p ls s None k e =
-    (ap (λ v. Some (if (has_values o && all_have_values us) && is_some v then Need else overflow)) e
-    ∙ ap Some (no_value (has_values o) (all_have_values us)), tt)
+close_case o us q p ls s None k e = (
+  ap (λ v. Some (if (has_values o && all_have_values us) && is_some v then Need else overflow)) e
+      ∙ ap Some (no_value (has_values o) (all_have_values us)),
+  tt,
+)
 close_case o us q p ls s (Some v) k e = behind_holds o us q p ls (enclosed s) v k e
 
 close_steps : (u o : Unfinished) (us : List Unfinished) (q r : lead.Lead) (p t : product.Product) (ls ms : List Level) (f : Factor) (g : Glue)
@@ -264,18 +271,22 @@ minus_case u us q p ls s (Some v) k e =
 
 times_case : (u : Unfinished) (us : List Unfinished) (q : lead.Lead) (p : product.Product) (ls : List Level) (t : Term) (w : Option Glue) → Keeps u us q p ls → term_value t u.sort ≡ w
     → Holds (before (record { sort = u.sort; front = u.front; product = tree.multiplied t }) us) (OnLevel ls (option_map (λ v. steps.with_product (level_of u q p) (products.Times v)) w))
-times_case u us q p ls t None k e =
-    (ap (λ v. Some (if (has_front u.front u.sort && is_some v) && all_have_values us then Need else overflow)) e
-    ∙ ap Some (no_term_there (has_front u.front u.sort) (all_have_values us)), tt)
+times_case u us q p ls t None k e = (
+  ap (λ v. Some (if (has_front u.front u.sort && is_some v) && all_have_values us then Need else overflow)) e
+      ∙ ap Some (no_term_there (has_front u.front u.sort) (all_have_values us)),
+  tt,
+)
 times_case u us q p ls t (Some v) k e =
     before_holds (record { sort = u.sort; front = u.front; product = tree.multiplied t }) us q (products.Times v) ls
     (record { front = k.front; product = map-along products.Times (term_value t u.sort) v e; outside = k.outside; nested = still_nested u us (tree.multiplied t) u.front k.nested })
 
 over_case : (u : Unfinished) (us : List Unfinished) (q : lead.Lead) (p : product.Product) (ls : List Level) (t : Term) (w : Option product.Product) → Keeps u us q p ls → product_kept (tree.divided t) u.sort ≡ w
     → Holds (before (record { sort = u.sort; front = u.front; product = tree.divided t }) us) (OnLevel ls (option_map (λ v. steps.with_product (level_of u q p) v) w))
-over_case u us q p ls t None k e =
-    (ap (λ b. Some (if (has_front u.front u.sort && b) && all_have_values us then Need else overflow)) (sym (is_some-product_kept (tree.divided t) u.sort) ∙ ap is_some e)
-    ∙ ap Some (no_term_there (has_front u.front u.sort) (all_have_values us)), tt)
+over_case u us q p ls t None k e = (
+  ap (λ b. Some (if (has_front u.front u.sort && b) && all_have_values us then Need else overflow)) (sym (is_some-product_kept (tree.divided t) u.sort) ∙ ap is_some e)
+      ∙ ap Some (no_term_there (has_front u.front u.sort) (all_have_values us)),
+  tt,
+)
 over_case u us q p ls t (Some v) k e =
     before_holds (record { sort = u.sort; front = u.front; product = tree.divided t }) us q v ls
     (record { front = k.front; product = e; outside = k.outside; nested = still_nested u us (tree.divided t) u.front k.nested })
@@ -438,7 +449,7 @@ answer_steps : (u : Unfinished) (us : List Unfinished) (q : lead.Lead) (p : prod
     → IsAnswer (state_of (level_of u q p) ls Begun) n → Holds (read_value u us m n) (steps.step_answer (state_of (level_of u q p) ls Begun) n)
 answer_steps u us q p ls m n k =
     let P : Sort → Type 0 = λ s. IsTrue (is_of_phrase (phrase_of s) n || is_mixed (phrase_of s) n)
-        → Holds (read_value u us m n) (if is_mixed (phrase_of s) n then stops (Trouble IncompatibleGlue) else goes (state_of (level_of u q p) ls (Behind (parts_of n)))) in
+    → Holds (read_value u us m n) (if is_mixed (phrase_of s) n then stops (Trouble IncompatibleGlue) else goes (state_of (level_of u q p) ls (Behind (parts_of n)))) in
     subst P (sort_kept u.product u.sort p k.product)
     (λ h. chosen (is_mixed (phrase_of (tree.factor_sort u)) n) (is_of_phrase (phrase_of (tree.factor_sort u)) n) (mixed u us m n) (behind u us (operand m n))
     (stops (Trouble IncompatibleGlue)) (goes (state_of (level_of u q p) ls (Behind (parts_of n)))) h (refl, tt)

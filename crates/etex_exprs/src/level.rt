@@ -4,7 +4,7 @@ ghost use Rattle.std.specs.Prelude.{◌≡◌};
 ghost use Rattle.etex_exprs.specs.Steps.{factor_sort, start_level, carried_out, term_of, joined, whole_of, with_product, with_sum, divided_level, with_operator};
 
 use crate::mark::Operator;
-use crate::parts;
+use crate::parts::{self, scaled_by};
 use crate::sort::Sort;
 use scaled::Glue;
 
@@ -71,7 +71,7 @@ impl Level {
             Product::Nothing => Some(factor),
             Product::Times(value) => parts::multiplied(bound, value, factor.width),
             Product::Over(value) => parts::divided(bound, value, factor.width),
-            Product::Fraction { value, factor: n } => parts::scaled_by(bound, value, n, factor.width),
+            Product::Fraction { value, factor: n } => scaled_by(bound, value, n, factor.width),
         }
     }
 

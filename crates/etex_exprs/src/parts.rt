@@ -68,13 +68,24 @@ fn glue_of(width: i32, stretch: i32, stretch_order: Order, shrink: i32, shrink_o
 
 // The glue of these parts, with the orders of another.
 #[tactic(auto, unfolding(crate::specs::TermTreeParts::with_parts))]
-fn with_parts(glue: Glue, width: Option<i32>, stretch: Option<i32>, shrink: Option<i32>) -> Option<Glue>
+fn with_parts(
+    glue: Glue,
+    width: Option<i32>,
+    stretch: Option<i32>,
+    shrink: Option<i32>,
+) -> Option<Glue>
     ensures { result ≡ with_parts glue width stretch shrink }
 {
     let width = width?;
     let stretch = stretch?;
     let shrink = shrink?;
-    Some(glue_of(width, stretch, glue.stretch_order, shrink, glue.shrink_order))
+    Some(glue_of(
+        width,
+        stretch,
+        glue.stretch_order,
+        shrink,
+        glue.shrink_order,
+    ))
 }
 
 /// The product of a glue and a whole number, where each part is within the bound.
@@ -150,7 +161,11 @@ fn part_sum(bound: i32, x: i32, order: Order, y: i32, other: Order) -> Option<(i
 }
 
 #[tactic(auto, unfolding(crate::specs::TermTreeParts::of_parts))]
-fn of_parts(width: Option<i32>, stretch: Option<(i32, Order)>, shrink: Option<(i32, Order)>) -> Option<Glue>
+fn of_parts(
+    width: Option<i32>,
+    stretch: Option<(i32, Order)>,
+    shrink: Option<(i32, Order)>,
+) -> Option<Glue>
     ensures { result ≡ of_parts width stretch shrink }
 {
     let width = width?;
@@ -171,8 +186,20 @@ pub fn glue_sum(bound: i32, glue: Glue, other: Glue) -> Option<Glue>
     ensures { result ≡ glue_sum bound glue other }
 {
     let width = sum(bound, glue.width, other.width);
-    let stretch = part_sum(bound, glue.stretch, glue.stretch_order, other.stretch, other.stretch_order);
-    let shrink = part_sum(bound, glue.shrink, glue.shrink_order, other.shrink, other.shrink_order);
+    let stretch = part_sum(
+        bound,
+        glue.stretch,
+        glue.stretch_order,
+        other.stretch,
+        other.stretch_order,
+    );
+    let shrink = part_sum(
+        bound,
+        glue.shrink,
+        glue.shrink_order,
+        other.shrink,
+        other.shrink_order,
+    );
     of_parts(width, stretch, shrink)
 }
 
@@ -195,7 +222,10 @@ fn is_within(bound: i32, number: i32) -> bool
 pub fn checked(bound: i32, glue: Glue) -> Option<Glue>
     ensures { result ≡ checked bound glue }
 {
-    if is_within(bound, glue.width) && is_within(bound, glue.stretch) && is_within(bound, glue.shrink) {
+    if is_within(bound, glue.width)
+        && is_within(bound, glue.stretch)
+        && is_within(bound, glue.shrink)
+    {
         Some(glue)
     } else {
         None

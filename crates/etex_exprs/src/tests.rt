@@ -5,28 +5,8 @@ ghost use Rattle.etex_exprs.specs.Standing.{WantsToken, IsReady, IsSorted};
 use crate::{ExprScan, Number, Phrase, Verdict};
 use scaled::{Glue, Order};
 use std::alloc::Global;
-use std::test::Fail;
 use tokens::codes::RELAX;
 use tokens::{Kind, Meaning, Token};
-
-/// A part of an expression: a character of category 12, or an operand by its value.
-#[derive(Clone, Copy)]
-enum Part {
-    Sign(u8),
-    Value(Number),
-}
-
-fn sign(byte: u8) -> Part {
-    Part::Sign(byte)
-}
-
-fn int(n: i32) -> Part {
-    Part::Value(Number::Int(n))
-}
-
-fn dimen(n: i32) -> Part {
-    Part::Value(Number::Dimen(n))
-}
 
 fn spread(width: i32, stretch: i32, stretch_order: Order) -> Number {
     Number::Glue(Glue {
@@ -80,49 +60,71 @@ fn take_value(scan: &mut ExprScan, number: Number) -> Option<()>
     }
 }
 
-fn take_part(scan: &mut ExprScan, part: Part) -> Option<()>
+// What comes of the `\relax` behind an expression.
+fn end(scan: &mut ExprScan) -> Option<Verdict>
     requires { WantsToken scan.old }
-    ensures { OnSome result (WantsToken scan.new) }
 {
-    match part {
-        Part::Sign(byte) => take_sign(scan, byte),
-        Part::Value(number) => take_value(scan, number),
-    }
-}
-
-// The verdict at the `\relax` behind the expression.
-fn value(alloc: Global, kind: Phrase, parts: &[Part]) -> Option<Verdict>
-    requires { IsSorted kind }
-{
-    let mut scan = ExprScan::new(alloc, kind);
-    for part in parts {
-        take_part(&mut scan, *part)?;
-    }
     match scan.take(Token::Frozen(0), &Meaning::Primitive(RELAX)) {
         Ok(verdict) => Some(verdict),
         Err(_) => None,
     }
 }
 
-// The number of an expression that ends with its `\relax`.
-fn number(alloc: Global, kind: Phrase, parts: &[Part]) -> Option<Number>
+fn pair(alloc: Global, kind: Phrase, x: Number, operator: u8, y: Number) -> Option<Verdict>
     requires { IsSorted kind }
 {
-    match value(alloc, kind, parts)? {
-        Verdict::Done(number) => Some(number),
+    let mut scan = ExprScan::new(alloc, kind);
+    take_value(&mut scan, x)?;
+    take_sign(&mut scan, operator)?;
+    take_value(&mut scan, y)?;
+    end(&mut scan)
+}
+
+fn triple(
+    alloc: Global,
+    kind: Phrase,
+    x: Number,
+    first: u8,
+    y: i32,
+    second: u8,
+    z: i32,
+) -> Option<Verdict>
+    requires { IsSorted kind }
+{
+    let mut scan = ExprScan::new(alloc, kind);
+    take_value(&mut scan, x)?;
+    take_sign(&mut scan, first)?;
+    take_value(&mut scan, Number::Int(y))?;
+    take_sign(&mut scan, second)?;
+    take_value(&mut scan, Number::Int(z))?;
+    end(&mut scan)
+}
+
+// The value of an expression that ends with its `\relax`, as a whole number.
+fn first(verdict: Option<Verdict>) -> Option<i32> {
+    match verdict {
+        Some(Verdict::Done(number)) => Some(number.first()),
         _ => None,
     }
 }
 
-fn overflows(alloc: Global, kind: Phrase, parts: &[Part]) -> bool
-    requires { IsSorted kind }
-{
-    matches!(value(alloc, kind, parts), Some(Verdict::Trouble(Kind::ArithOverflow)))
+fn overflows(verdict: Option<Verdict>) -> bool {
+    matches!(verdict, Some(Verdict::Trouble(Kind::ArithOverflow)))
+}
+
+fn quotient(alloc: Global, n: i32, divisor: i32) -> Option<Verdict> {
+    pair(
+        alloc,
+        Phrase::Int,
+        Number::Int(n),
+        b'/',
+        Number::Int(divisor),
+    )
 }
 
 #[test]
 fn quotients_are_rounded_to_the_nearest(rt: HostRuntime) {
-    for (n, divisor, quotient) in [
+    for (n, divisor, result) in [
         (7, 2, 4),
         (-7, 2, -4),
         (7, -2, -4),
@@ -132,45 +134,39 @@ fn quotients_are_rounded_to_the_nearest(rt: HostRuntime) {
         (-1, 2, -1),
         (5, 2, 3),
     ] {
-        let got = number(rt.alloc(), Phrase::Int, &[int(n), sign(b'/'), int(divisor)]);
-        assert_eq!(rt; got, Some(Number::Int(quotient)));
+        assert_eq!(rt; first(quotient(rt.alloc(), n, divisor)), Some(result));
     }
-}
-
-#[test]
-fn a_product_that_is_divided_is_rounded_once(rt: HostRuntime) {
-    for (n, factor, divisor, result) in [
-        (2147483647, 3, 3, 2147483647),
-        (1000000, 1000000, 1000000, 1000000),
-        (3, 5, 2, 8),
-        (-3, 5, 2, -8),
-        (1234, 2, 3, 823),
-    ] {
-        let parts = [int(n), sign(b'*'), int(factor), sign(b'/'), int(divisor)];
-        assert_eq!(rt; number(rt.alloc(), Phrase::Int, &parts), Some(Number::Int(result)));
-    }
+    assert!(rt; overflows(quotient(rt.alloc(), 7, 0)));
 }
 
 #[test]
 fn operators_bind_as_in_sums_of_products(rt: HostRuntime) {
-    for (x, first, y, second, z, result) in [
+    for (x, one, y, two, z, result) in [
         (2, b'+', 3, b'*', 4, 14),
         (10, b'-', 2, b'-', 3, 5),
         (100, b'/', 3, b'/', 3, 11),
         (6, b'/', 4, b'*', 2, 4),
         (2147483647, b'-', 1, b'+', 1, 2147483647),
+        (2147483647, b'*', 3, b'/', 3, 2147483647),
+        (3, b'*', 5, b'/', 2, 8),
+        (-3, b'*', 5, b'/', 2, -8),
+        (1234, b'*', 2, b'/', 3, 823),
     ] {
-        let parts = [int(x), sign(first), int(y), sign(second), int(z)];
-        assert_eq!(rt; number(rt.alloc(), Phrase::Int, &parts), Some(Number::Int(result)));
+        let got = triple(rt.alloc(), Phrase::Int, Number::Int(x), one, y, two, z);
+        assert_eq!(rt; first(got), Some(result));
     }
 }
 
-#[test]
-fn parentheses_come_first(rt: HostRuntime) {
-    let sum = [sign(b'('), int(2), sign(b'+'), int(3), sign(b')'), sign(b'*'), int(4)];
-    assert_eq!(rt; number(rt.alloc(), Phrase::Int, &sum), Some(Number::Int(20)));
-    let inner = [int(2), sign(b'*'), sign(b'('), int(3), sign(b'+'), int(4), sign(b')'), sign(b'*'), int(5)];
-    assert_eq!(rt; number(rt.alloc(), Phrase::Int, &inner), Some(Number::Int(70)));
+fn dimension(alloc: Global, n: i32, factor: i32, divisor: i32) -> Option<Verdict> {
+    triple(
+        alloc,
+        Phrase::Dimen,
+        Number::Dimen(n),
+        b'*',
+        factor,
+        b'/',
+        divisor,
+    )
 }
 
 #[test]
@@ -181,55 +177,31 @@ fn dimensions_are_multiplied_and_divided(rt: HostRuntime) {
         (4736286, 5, 7, 3383061),
         (1, 3, 2, 2),
     ] {
-        let parts = [dimen(n), sign(b'*'), int(factor), sign(b'/'), int(divisor)];
-        assert_eq!(rt; number(rt.alloc(), Phrase::Dimen, &parts), Some(Number::Dimen(result)));
+        assert_eq!(rt;
+            first(dimension(rt.alloc(), n, factor, divisor)),
+            Some(result)
+        );
     }
-    let large = [dimen(65536), sign(b'*'), int(65536), sign(b'/'), int(3)];
-    assert!(rt; overflows(rt.alloc(), Phrase::Dimen, &large));
+    assert!(rt; overflows(dimension(rt.alloc(), 65536, 65536, 3)));
 }
 
-#[test]
-fn nothing_is_divided_by_zero(rt: HostRuntime) {
-    assert!(rt; overflows(rt.alloc(), Phrase::Int, &[int(7), sign(b'/'), int(0)]));
+fn has_stretch(verdict: Option<Verdict>, stretch: i32, order: Order) -> bool {
+    match verdict {
+        Some(Verdict::Done(Number::Glue(glue))) => glue.stretch == stretch
+            && glue.stretch_order.is_same(order),
+        _ => false,
+    }
 }
 
 #[test]
 fn glue_is_computed_by_parts(rt: HostRuntime) {
-    let sum = [
-        Part::Value(spread(65536, 131072, Order::Fil)),
-        sign(b'+'),
-        Part::Value(spread(196608, 65536, Order::Fil)),
-    ];
-    let whole = Some(spread(262144, 196608, Order::Fil));
-    assert_eq!(rt; number(rt.alloc(), Phrase::Glue, &sum), whole);
-    let orders = [
-        Part::Value(spread(65536, 65536, Order::Fil)),
-        sign(b'-'),
-        Part::Value(spread(65536, 65536, Order::Fill)),
-    ];
-    assert_eq!(rt; number(rt.alloc(), Phrase::Glue, &orders), Some(spread(0, -65536, Order::Fill)));
-}
-
-#[test]
-fn a_relax_is_absorbed_and_another_token_is_not(rt: HostRuntime) -> Result<(), Fail> {
-    let mut scan = ExprScan::new(rt.alloc(), Phrase::Int);
-    take_value(&mut scan, Number::Int(7)).ok_or("no operand")?;
-    let behind = matches!(
-        taken(&mut scan, b')'),
-        Some(Verdict::DoneBefore {
-            number: Number::Int(7),
-            back: 1
-        })
-    );
-    assert!(rt; behind);
-    assert_eq!(rt; number(rt.alloc(), Phrase::Int, &[int(7)]), Some(Number::Int(7)));
-    Ok(())
-}
-
-#[test]
-fn an_open_parenthesis_is_missed(rt: HostRuntime) {
-    let open = value(rt.alloc(), Phrase::Int, &[sign(b'('), int(7)]);
-    assert!(rt; matches!(open, Some(Verdict::Trouble(Kind::MissingParenthesis))));
+    let x = spread(65536, 131072, Order::Fil);
+    let y = spread(196608, 65536, Order::Fil);
+    let sum = pair(rt.alloc(), Phrase::Glue, x, b'+', y);
+    assert!(rt; has_stretch(sum, 196608, Order::Fil));
+    let higher = spread(65536, 65536, Order::Fill);
+    let difference = pair(rt.alloc(), Phrase::Glue, x, b'-', higher);
+    assert!(rt; has_stretch(difference, -65536, Order::Fill));
 }
 
 // Opens or closes so many parentheses.
@@ -251,7 +223,30 @@ fn nested(alloc: Global, depth: u32) -> Option<Verdict> {
     taken(&mut scan, b'x')
 }
 
+// An opening parenthesis, an operand and the end.
+fn unclosed(alloc: Global) -> Option<Verdict> {
+    let mut scan = ExprScan::new(alloc, Phrase::Int);
+    take_sign(&mut scan, b'(')?;
+    take_value(&mut scan, Number::Int(7))?;
+    end(&mut scan)
+}
+
 #[test]
-fn parentheses_nest_to_depth_thirty(rt: HostRuntime) {
-    assert!(rt; matches!(nested(rt.alloc(), 30), Some(Verdict::DoneBefore { number: Number::Int(7), back: 1 })));
+fn parentheses_nest_and_are_missed(rt: HostRuntime) {
+    let behind = nested(rt.alloc(), 30);
+    assert!(rt;
+        matches!(
+            behind,
+            Some(Verdict::DoneBefore {
+                number: Number::Int(7),
+                back: 1
+            })
+        )
+    );
+    assert!(rt;
+        matches!(
+            unclosed(rt.alloc()),
+            Some(Verdict::Trouble(Kind::MissingParenthesis))
+        )
+    );
 }
