@@ -1,0 +1,26 @@
+-- A list whose front stands at the end of a vector.
+use Rattle.std.proofs.Common.{◌≡◌, ℕ, ◌+◌, ◌<◌, ◌≤◌, List, [], ◌∷◌, ◌++◌, ap, ◌∙◌, sym, refl, length, take, get_or, set, arith, zero, suc, length-set}
+use Rattle.std.specs.Prelude.{reverse}
+use Rattle.std.proofs.lemmas.List.{reverse-append, take_all}
+use Rattle.std.proofs.Math.Seq.{take-suc, take-suc-set}
+use Rattle.conditionals.specs.declared.stack.Branch.{Branch}
+use Rattle.conditionals.specs.declared.stack.Condition.{Condition}
+use Rattle.conditionals.specs.Conditions.{with_branch}
+
+reverse_set : (n : ℕ) (xs : List Condition) (y : Condition) → n + 1 ≡ length xs → reverse (set xs n y) ≡ y ∷ reverse (take n xs)
+reverse_set n xs y e =
+    let below : n < length xs = omega arith in
+    let all : take (suc n) (set xs n y) ≡ set xs n y = take_all (suc n) (set xs n y) (omega (arith, length-set xs n y)) in
+    ap reverse (sym all ∙ take-suc-set xs n y below) ∙ reverse-append (take n xs) (y ∷ [])
+
+reverse_last : (n : ℕ) (xs : List Condition) (x : Condition) → n + 1 ≡ length xs → x ≡ get_or xs n x → reverse xs ≡ x ∷ reverse (take n xs)
+reverse_last n xs x e h =
+    let below : n < length xs = omega arith in
+    let all : take (suc n) xs ≡ xs = take_all (suc n) xs (omega arith) in
+    ap reverse (sym all ∙ take-suc xs n x below) ∙ reverse-append (take n xs) (get_or xs n x ∷ []) ∙ ap (λ (z : Condition). z ∷ reverse (take n xs)) (sym h)
+
+-- the branch of the last one is that of the first where the list is reversed
+pub branch-last : (branch : Branch) (n : ℕ) (xs : List Condition) (x : Condition) → n + 1 ≡ length xs → x ≡ get_or xs n x
+    → reverse (set xs n (record x { branch = branch })) ≡ with_branch branch (reverse xs)
+branch-last branch n xs x e h =
+    reverse_set n xs (record x { branch = branch }) e ∙ ap (with_branch branch) (sym (reverse_last n xs x e h))

@@ -1,0 +1,4 @@
+pub mod Word
+pub mod Branches
+pub mod Skipping
+pub mod Conditions

@@ -1,0 +1,4 @@
+//! Worked texts that are passed over, and conditions that are open, a file for each subject.
+
+mod passing;
+mod stack;

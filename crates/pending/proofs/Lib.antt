@@ -1,0 +1,5 @@
+pub mod Looking
+pub mod Stacks
+pub mod Innermost
+pub mod Nexts
+pub mod Flats
