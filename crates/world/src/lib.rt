@@ -16,6 +16,8 @@ mod target;
 mod tests;
 mod whole;
 mod world;
+#[cfg(test)]
+mod world_tests;
 
 pub use folder::DirWorld;
 pub use honest::{HonestWorld, honest_world_laws};
