@@ -41,12 +41,6 @@ pub struct IntScan {
     state: IntState,
 }
 
-impl Default for IntScan {
-    fn default() -> Self {
-        Self::new()
-    }
-}
-
 impl IntScan {
     ghost use Rattle.scan_nums.specs.IntScan.{awaits, Stands};
 
