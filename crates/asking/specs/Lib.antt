@@ -1,0 +1,3 @@
+pub mod Did
+pub mod Meaning
+pub mod Seen

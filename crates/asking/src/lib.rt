@@ -1,0 +1,2 @@
+//! Meanings of commands that may ask the world for files, and how files are handed out to them.
+#![tactic(auto)]
