@@ -327,6 +327,8 @@ impl World for AskedWorld {
 
     ghost told = { λ w. Some w.inner };
 
+    ghost which = { λ _. 0 };
+
     ghost read_faults = { λ _. 0 };
 
     ghost write_faults = { λ _. 0 };

@@ -42,6 +42,8 @@ impl<R: Runtime> DirWorld<R> {
 impl<R: Disk> World for DirWorld<R> {
     ghost told = { λ _. None };
 
+    ghost which = { λ _. 0 };
+
     ghost read_faults = { λ w. w.read_faults };
 
     ghost write_faults = { λ w. w.write_faults };

@@ -80,6 +80,8 @@ impl HonestWorld {
 impl World for HonestWorld {
     ghost told = { λ w. Some w };
 
+    ghost which = { λ _. 0 };
+
     ghost read_faults = { λ _. 0 };
 
     ghost write_faults = { λ _. 0 };

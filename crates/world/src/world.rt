@@ -44,6 +44,10 @@ pub trait World {
     /// The files, the terminal's bytes and the number of fetches, where the world tells them.
     ghost told: { Self → Option Told };
 
+    /// The world's name in proofs, which no call changes. Behind a `&mut` it is the reference's
+    /// own, so that whoever lent its world knows that this one was asked.
+    ghost which: { Self → ℕ };
+
     /// How many fetches failed. It never falls.
     ghost read_faults: { Self → ℕ };
 
@@ -55,14 +59,16 @@ pub trait World {
         requires good { IsGoodName name.now }
         ensures answer { Fetches name.now result (told self.old) (told self.new) }
         ensures read_fault { Counts (told self.old) result (read_faults self.old) (read_faults self.new) }
-        ensures write_fault { write_faults self.new ≡ write_faults self.old };
+        ensures write_fault { write_faults self.new ≡ write_faults self.old }
+        ensures same_world { which self.new ≡ which self.old };
 
     /// Makes the name stand for a file without bytes, whatever it stood for.
     fn create(&mut self, name: &[u8]) -> Result<(), WorldError>
         requires good { IsGoodName name.now }
         ensures answer { Creates name.now result (told self.old) (told self.new) }
         ensures read_fault { read_faults self.new ≡ read_faults self.old }
-        ensures write_fault { Counts (told self.old) result (write_faults self.old) (write_faults self.new) };
+        ensures write_fault { Counts (told self.old) result (write_faults self.old) (write_faults self.new) }
+        ensures same_world { which self.new ≡ which self.old };
 
     /// Adds bytes at the end of a file, which is made where it is absent. After a refusal a first
     /// part of them may stand there.
@@ -70,13 +76,42 @@ pub trait World {
         requires good { IsGoodName name.now }
         ensures answer { Appends name.now bytes.now result (told self.old) (told self.new) }
         ensures read_fault { read_faults self.new ≡ read_faults self.old }
-        ensures write_fault { Counts (told self.old) result (write_faults self.old) (write_faults self.new) };
+        ensures write_fault { Counts (told self.old) result (write_faults self.old) (write_faults self.new) }
+        ensures same_world { which self.new ≡ which self.old };
 
     /// Writes bytes to the terminal, at once. After a refusal a first part of them may stand there.
     fn show(&mut self, bytes: &[u8]) -> Result<(), WorldError>
         ensures answer { Shows bytes.now result (told self.old) (told self.new) }
         ensures read_fault { read_faults self.new ≡ read_faults self.old }
-        ensures write_fault { Counts (told self.old) result (write_faults self.old) (write_faults self.new) };
+        ensures write_fault { Counts (told self.old) result (write_faults self.old) (write_faults self.new) }
+        ensures same_world { which self.new ≡ which self.old };
+}
+
+/// A borrowed world. What is done to it is done to the world behind the reference.
+impl<W: World> World for &mut W {
+    ghost told = { λ world. W.told world.now };
+
+    ghost which = { λ world. world.ghost_name };
+
+    ghost read_faults = { λ world. W.read_faults world.now };
+
+    ghost write_faults = { λ world. W.write_faults world.now };
+
+    fn fetch(&mut self, alloc: Global, name: &[u8]) -> Result<Option<Vec<u8>>, WorldError> {
+        (**self).fetch(alloc, name)
+    }
+
+    fn create(&mut self, name: &[u8]) -> Result<(), WorldError> {
+        (**self).create(name)
+    }
+
+    fn append(&mut self, name: &[u8], bytes: &[u8]) -> Result<(), WorldError> {
+        (**self).append(name, bytes)
+    }
+
+    fn show(&mut self, bytes: &[u8]) -> Result<(), WorldError> {
+        (**self).show(bytes)
+    }
 }
 
 /// The longest good name, in bytes.
