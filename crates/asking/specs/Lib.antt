@@ -6,3 +6,4 @@ pub mod Library
 pub mod Known
 pub mod Loops
 pub mod Example
+pub mod Leads
