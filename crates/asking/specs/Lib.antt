@@ -7,3 +7,4 @@ pub mod Known
 pub mod Loops
 pub mod Example
 pub mod Leads
+pub mod Turns
