@@ -1,18 +1,16 @@
 -- What a world that only shows and fetches told since the start.
-use Rattle.std.proofs.Common.{◌≡◌, ℕ, ◌+◌, ◌<◌, true, List, [], ◌++◌, length, take, drop, Option, Some, None, Result, Ok, Err, refl, ap, sym, ◌∙◌, append_assoc, add-one, subst}
-use Rattle.std.specs.Prelude.{Vec, is_some, Bool, false, cond}
-use Rattle.std.specs.Option.{option_map}
+use Rattle.std.proofs.Common.{◌≡◌, ℕ, List, ◌++◌, length, take, drop, Option, Some, None, Result, Ok, Err, refl, ap, sym, ◌∙◌, append_assoc}
+use Rattle.std.specs.Prelude.{is_some}
 use Rattle.std.proofs.lemmas.List.{drop_at}
-use Rattle.std.specs.FinMap as tree
-use Rattle.world.specs.Told.{Told, counted, with_shown, after_fetch, last_count}
-use Rattle.world.specs.Calls.{Shows, ShowTells, Fetches, FetchTells, Rises, Counts}
+use Rattle.world.specs.Told.{Told, with_shown}
+use Rattle.world.specs.Calls.{Shows, Rises, Counts}
 use Rattle.world.specs.declared.world.WorldError.{WorldError}
 use Rattle.world.specs.declared.world.WorldError.TheVariants.{Failed, OutOfMemory}
-use Rattle.asking.specs.Asked.{prefix_same, prefix_part}
-use Rattle.asking.specs.Known.{counted_more, outside_of, files_told, shown_since, after_all, IsKnown, place_since, seen_of}
-use Rattle.asking.specs.Library.{showing, counting, bytes_found, ShowsBeside, ReadsBeside}
+use Rattle.asking.specs.Asked.{prefix_part}
+use Rattle.asking.specs.Known.{counted_more, outside_of, after_all, IsKnown, place_since, seen_of}
+use Rattle.asking.specs.Library.{showing, IsPart, ShowsBeside}
 use Rattle.asking.specs.Meaning.{Place}
-use Rattle.asking.specs.Seen.{Outside, Seen, Calm, Misread, Miswrote, Told as WhereTells, Rose, is_prefix}
+use Rattle.asking.specs.Seen.{Told as WhereTells, Rose, is_prefix}
 
 -- what stands behind the start, where more is shown
 shown_more : (t u v : Told) (asked : ℕ) (x : List ℕ) → u ≡ after_all asked (drop (length t.terminal) u.terminal) t → v ≡ with_shown x u
@@ -35,7 +33,7 @@ known_more t u v asked x h e =
     let shown = since_more t u v asked x h e in
     e ∙ ap (λ (w : Told). with_shown x w) h
     ∙ ap (λ (text : List ℕ). let w : Told = record { files = t.files; terminal = text; fetched = counted_more asked t.fetched } in w)
-        (append_assoc t.terminal (drop (length t.terminal) u.terminal) x ∙ ap (λ (text : List ℕ). t.terminal ++ text) (sym shown))
+    (append_assoc t.terminal (drop (length t.terminal) u.terminal) x ∙ ap (λ (text : List ℕ). t.terminal ++ text) (sym shown))
 
 pub show_known : (start a b : Option Told) (asked : ℕ) (text : List ℕ) (result : Result (Unit {0}) WorldError) → IsKnown start a asked → Shows text result a b → IsKnown start b asked
 show_known None None None asked text result h s = tt
@@ -55,13 +53,15 @@ show_all (Some t) (Some u) (Some v) asked text h s =
     ap (λ (shown : List ℕ). let p : Place = record { asked = asked; shown = shown } in p) (since_more t u v asked text h s)
 
 pub show_part : (start a b : Option Told) (asked : ℕ) (text : List ℕ) (e : WorldError) → IsKnown start a asked → Shows text (Err e) a b
-    → WhereTells (outside_of start) (is_prefix (place_since start b asked).shown ((place_since start a asked).shown ++ text) ≡ true)
+    → WhereTells (outside_of start) (IsPart text (place_since start a asked) (place_since start b asked))
 show_part None a b asked text e h s = tt
 show_part (Some t) None b asked text e h s = absurd h
 show_part (Some t) (Some u) None asked text e h s = absurd s
-show_part (Some t) (Some u) (Some v) asked text e h s =
-    ap (λ (shown : List ℕ). is_prefix shown (drop (length t.terminal) u.terminal ++ text)) (since_more t u v asked (take s.0 text) h s.1)
-    ∙ prefix_part (drop (length t.terminal) u.terminal) text s.0
+show_part (Some t) (Some u) (Some v) asked text e h s = (
+  ap (λ (shown : List ℕ). is_prefix shown (drop (length t.terminal) u.terminal ++ text)) (since_more t u v asked (take s.0 text) h s.1)
+      ∙ prefix_part (drop (length t.terminal) u.terminal) text s.0,
+  refl,
+)
 
 -- a count that rises
 pub rises_rose : (start a : Option Told) (asked before now : ℕ) → IsKnown start a asked → Rises a before now → Rose (is_some start) before now

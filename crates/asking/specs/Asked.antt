@@ -1,10 +1,10 @@
 -- The laws of what is asked for, and the set of them that a crate names whose calls may ask. Numbers of fetches and
 -- places are counted from the beginning of the run, so that no law takes a difference.
-use Rattle.std.specs.Prelude.{◌≡◌, refl, ℕ, ◌+◌, ◌<◌, ◌≤◌, Bool, true, false, ◌==◌, ◌&&◌, if◌then◌else◌, cond, List, [], ◌∷◌, ◌++◌, Option, Some, None, is_some, Result, Ok, Err}
-use Rattle.std.proofs.Common.{ap, sym, ◌∙◌, append_assoc, arith, subst, take, drop}
+use Rattle.std.specs.Prelude.{◌≡◌, refl, ℕ, ◌+◌, ◌<◌, ◌≤◌, Bool, true, false, ◌==◌, ◌&&◌, if◌then◌else◌, List, [], ◌∷◌, ◌++◌, Some, None, is_some}
+use Rattle.std.proofs.Common.{ap, ◌∙◌, append_assoc, arith, subst, take, drop}
 use Rattle.std.proofs.lemmas.List.{take-append-drop}
 use Rattle.std.proofs.lemmas.Bool.{eqb-true, eq-eqb, ne_eqb}
-use Rattle.asking.specs.Meaning.{Place, Ask, Meaning, step, walk, asked_at, ask_within, asks_within, found_within}
+use Rattle.asking.specs.Meaning.{Place, Ask, step, walk, asked_at, asks_within, found_within}
 use Rattle.asking.specs.Seen.{is_prefix}
 
 -- the places behind two parts
@@ -80,7 +80,7 @@ at_then {S} n (x ∷ xs) ys p h =
     here false same rest = rest
 
 -- what a list begins with a longer one begins with too
-prefix_longer : (t xs ys : List ℕ) → is_prefix t xs ≡ true → is_prefix t (xs ++ ys) ≡ true
+pub prefix_longer : (t xs ys : List ℕ) → is_prefix t xs ≡ true → is_prefix t (xs ++ ys) ≡ true
 unfolding is_prefix
 prefix_longer [] xs ys h = refl
 prefix_longer (x ∷ t) [] ys h = cc
@@ -111,7 +111,7 @@ pub prefix_part : (xs ys : List ℕ) (n : ℕ) → is_prefix (xs ++ take n ys) (
 prefix_part xs ys n =
     let P : List ℕ → Type 0 = λ zs. is_prefix (xs ++ take n ys) zs ≡ true in
     subst P (append_assoc xs (take n ys) (drop n ys) ∙ ap (λ (zs : List ℕ). xs ++ zs) (take-append-drop n ys))
-        (prefix_longer (xs ++ take n ys) (xs ++ take n ys) (drop n ys) (prefix_same (xs ++ take n ys)))
+    (prefix_longer (xs ++ take n ys) (xs ++ take n ys) (drop n ys) (prefix_same (xs ++ take n ys)))
 
 -- ---- a part of the state
 
@@ -129,7 +129,7 @@ at_within {S} {T} beside n (x ∷ xs) p = here (n == p.asked + 1) (at_within bes
   where
     here : (b : Bool) → asked_at n (asks_within beside xs) (step x.text p) ≡ found_within beside (asked_at n xs (step x.text p))
         → (if b then Some (beside x.state, step x.text p) else asked_at n (asks_within beside xs) (step x.text p))
-            ≡ found_within beside (if b then Some (x.state, step x.text p) else asked_at n xs (step x.text p))
+        ≡ found_within beside (if b then Some (x.state, step x.text p) else asked_at n xs (step x.text p))
     here true rest = refl
     here false rest = rest
 

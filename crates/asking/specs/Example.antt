@@ -1,5 +1,5 @@
 -- Meanings of calls on a part of a state, and of a call on the whole.
-use Rattle.std.specs.Prelude.{ℕ, ◌+◌, ◌-◌, ◌^◌, min, Bool, true, false, if◌then◌else◌, List, Option, Some, None, Ok, Err}
+use Rattle.std.specs.Prelude.{ℕ, ◌+◌, ◌-◌, ◌^◌, min, Bool, true, false, if◌then◌else◌, List, Option, Some, None, Ok}
 use Rattle.world.specs.Name.{is_good}
 use Rattle.asking.specs.declared.example.Part.{Part}
 use Rattle.asking.specs.declared.example.Whole.{Whole}

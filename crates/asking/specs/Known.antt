@@ -1,5 +1,5 @@
 -- What is known of a world that files are fetched from, by what it told at the start.
-use Rattle.std.specs.Prelude.{◌≡◌, ℕ, Bool, true, false, List, [], ◌++◌, length, drop, Option, Some, None, is_some}
+use Rattle.std.specs.Prelude.{◌≡◌, ℕ, List, [], ◌++◌, length, drop, Option, Some, None, is_some}
 use Rattle.std.proofs.Common.{zero, suc}
 use Rattle.std.specs.FinMap as tree
 use Rattle.world.specs.Told.{Told, counted}

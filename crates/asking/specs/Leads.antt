@@ -1,12 +1,12 @@
 -- What is said of one call, and of what follows it, is said of both; and of as many as a loop makes.
-use Rattle.std.specs.Prelude.{◌≡◌, refl, ℕ, ◌+◌, ◌<◌, ◌≤◌, Bool, true, false, cond, List, [], ◌∷◌, ◌++◌, Option, Some, None, Result, Ok, Err, is_some}
+use Rattle.std.specs.Prelude.{◌≡◌, refl, ℕ, ◌<◌, ◌≤◌, Bool, true, false, cond, List, [], ◌++◌, Option, Some, Result, Ok, Err, is_some}
 use Rattle.std.proofs.Common.{zero, suc, ap, sym, ◌∙◌, subst, arith}
 use Rattle.tokens.specs.declared.stop.Stop.{Stop}
 use Rattle.tokens.specs.declared.stop.Stop.TheVariants.{Trouble, Capacity, Spent, ReadFault, WriteFault, OutOfMemory}
 use Rattle.asking.specs.Did.{Did}
-use Rattle.asking.specs.Meaning.{Place, Ask, Meaning, Meant, walk, asked_at, followed, asks_after, ends_after, still, ◌>>=◌}
-use Rattle.asking.specs.Seen.{Outside, Seen, Calm, Misread, Miswrote, Rose, Told, Went, IsCut, DoesBeside, DoesBesideBy, is_prefix}
-use Rattle.asking.specs.Asked.{walk_two, walk_none, at_first, at_then, cut_later, prefix_same}
+use Rattle.asking.specs.Meaning.{Place, Ask, Meant, walk, asked_at, asks_after, ends_after, still, ◌>>=◌}
+use Rattle.asking.specs.Seen.{Outside, Seen, Calm, Misread, Miswrote, Rose, Told, Went, IsCut, DoesBeside, is_prefix}
+use Rattle.asking.specs.Asked.{walk_two, walk_none, at_first, at_then, cut_later}
 use Rattle.asking.specs.Loops.{at_most, go_on, rounds}
 
 -- what follows from what is told
@@ -76,11 +76,11 @@ module _ {S A B : Type 0} (o : Outside) (old mid : Seen) (m : Meant S A) (furthe
       → Told o (asked_at new.place.asked ((m >>= further) old.place).asks old.place ≡ Some (s, new.place))
   read_then new done s h g =
       tell_two o _ _ _ (λ a b.
-          let there : asked_at new.place.asked (further done mid.place).asks (walk (m old.place).asks old.place) ≡ Some (s, new.place) =
-              ap (λ (p : Place). asked_at new.place.asked (further done mid.place).asks p) (sym a.1) ∙ b in
-          ap (λ (asks : List (Ask S)). asked_at new.place.asked asks old.place) (asks_are done a.0 a.1)
-          ∙ at_then new.place.asked (m old.place).asks (further done mid.place).asks old.place (ap (λ (f : Option (S × Place)). is_some f) there)
-          ∙ there) h.1 g
+      let there : asked_at new.place.asked (further done mid.place).asks (walk (m old.place).asks old.place) ≡ Some (s, new.place) =
+      ap (λ (p : Place). asked_at new.place.asked (further done mid.place).asks p) (sym a.1) ∙ b in
+      ap (λ (asks : List (Ask S)). asked_at new.place.asked asks old.place) (asks_are done a.0 a.1)
+      ∙ at_then new.place.asked (m old.place).asks (further done mid.place).asks old.place (ap (λ (f : Option (S × Place)). is_some f) there)
+      ∙ there) h.1 g
 
   -- what is said of one call that went well, and of what follows it, is said of both
   pub does_then : (new : Seen) (value : A) (s t : S) (result : Result B Stop)
@@ -97,25 +97,29 @@ module _ {S A B : Type 0} (o : Outside) (old new : Seen) (m : Meant S A) (furthe
   went_off : (e : Stop × S) → Told o (((m old.place).ends ≡ Err e) × (new.place ≡ walk (m old.place).asks old.place))
       → Told o ((((m >>= further) old.place).ends ≡ Err e) × (new.place ≡ walk ((m >>= further) old.place).asks old.place))
   went_off e h =
-      tell_map o _ _ (λ a. (ap (λ (d : Did S A). ends_after d further (walk (m old.place).asks old.place)) a.0,
-          a.1 ∙ sym (ap (λ (d : Did S A). walk ((m old.place).asks ++ asks_after d further (walk (m old.place).asks old.place)) old.place) a.0
-              ∙ walk_two (m old.place).asks [] old.place ∙ walk_none S (walk (m old.place).asks old.place)))) h
+      tell_map o _ _ (λ a. (
+        ap (λ (d : Did S A). ends_after d further (walk (m old.place).asks old.place)) a.0,
+        a.1 ∙ sym (ap (λ (d : Did S A). walk ((m old.place).asks ++ asks_after d further (walk (m old.place).asks old.place)) old.place) a.0
+            ∙ walk_two (m old.place).asks [] old.place ∙ walk_none S (walk (m old.place).asks old.place)),
+      )) h
 
   cut_off : IsCut o old new m → IsCut o old new (m >>= further)
   cut_off h =
       tell_map o _ _ (λ a.
-          ap (λ (p : Place). is_prefix new.place.shown p.shown) (walk_two (m old.place).asks (asks_after (m old.place).ends further (walk (m old.place).asks old.place)) old.place)
-          ∙ cut_later new.place.shown (asks_after (m old.place).ends further (walk (m old.place).asks old.place)) (walk (m old.place).asks old.place) a) h
+      ap (λ (p : Place). is_prefix new.place.shown p.shown) (walk_two (m old.place).asks (asks_after (m old.place).ends further (walk (m old.place).asks old.place)) old.place)
+      ∙ cut_later new.place.shown (asks_after (m old.place).ends further (walk (m old.place).asks old.place)) (walk (m old.place).asks old.place) a) h
 
   -- an end is the end of what would have followed, too
   pub does_end : (s : S) (stop : Stop) → DoesBeside {A = A} o old new (Err stop) s m → DoesBeside {A = B} o old new (Err stop) s (m >>= further)
   does_end s (Trouble kind) h = (h.0, went_off (Trouble kind, s) h.1)
   does_end s (Capacity cap) h = (h.0, went_off (Capacity cap, s) h.1)
   does_end s Spent h = (h.0, went_off (Spent, s) h.1)
-  does_end s ReadFault h =
-      (h.0, tell_map o _ _ (λ a.
-          at_first new.place.asked (m old.place).asks (asks_after (m old.place).ends further (walk (m old.place).asks old.place)) old.place
-              (ap (λ (f : Option (S × Place)). is_some f) a) ∙ a) h.1)
+  does_end s ReadFault h = (
+    h.0,
+    tell_map o _ _ (λ a.
+        at_first new.place.asked (m old.place).asks (asks_after (m old.place).ends further (walk (m old.place).asks old.place)) old.place
+        (ap (λ (f : Option (S × Place)). is_some f) a) ∙ a) h.1,
+  )
   does_end s WriteFault h = (h.0, cut_off h.1)
   does_end s OutOfMemory h = (h.0, cut_off h.1)
 

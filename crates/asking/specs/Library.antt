@@ -1,5 +1,5 @@
 -- How files are handed out: what each call of a library says.
-use Rattle.std.specs.Prelude.{◌≡◌, ℕ, ◌+◌, true, List, ◌++◌, Option, Some, None, Result, Ok, Err, Vec}
+use Rattle.std.specs.Prelude.{◌≡◌, ℕ, ◌+◌, true, List, ◌++◌, Option, Result, Ok, Err, Vec}
 use Rattle.std.specs.Option.{option_map}
 use Rattle.world.specs.Output.{Output, flushed}
 use Rattle.world.specs.declared.world.WorldError.{WorldError}
@@ -19,11 +19,15 @@ bytes_found found = option_map (λ bytes. bytes.items) found
 abbrev pub showing : List ℕ → Place → Place
 showing text place = record place { shown = place.shown ++ text }
 
+-- a first part of a text was shown
+abbrev pub IsPart : List ℕ → Place → Place → Type 0
+IsPart text before after = (is_prefix after.shown (before.shown ++ text) ≡ true) × (after.asked ≡ before.asked)
+
 -- a text is shown, without asking for a file
 abbrev pub ShowsBeside : Outside → List ℕ → Seen → Seen → Result (Unit {0}) WorldError → Type 0
 ShowsBeside o text old new (Ok done) = Calm old new × Told o (new.place ≡ showing text old.place)
-ShowsBeside o text old new (Err Failed) = Miswrote o old new × Told o (is_prefix new.place.shown (old.place.shown ++ text) ≡ true)
-ShowsBeside o text old new (Err OutOfMemory) = Calm old new × Told o (is_prefix new.place.shown (old.place.shown ++ text) ≡ true)
+ShowsBeside o text old new (Err Failed) = Miswrote o old new × Told o (IsPart text old.place new.place)
+ShowsBeside o text old new (Err OutOfMemory) = Calm old new × Told o (IsPart text old.place new.place)
 
 -- the place behind a file that is asked for
 abbrev pub counting : Place → Place

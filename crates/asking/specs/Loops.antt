@@ -1,8 +1,8 @@
 -- Something that is done again and again until it says that it is enough. What is done leaves less work each time
 -- that it asks for more, so that it comes to an end; that it does is said by the code, path by path, and not by a law
 -- of the definitions.
-use Rattle.std.specs.Prelude.{◌≡◌, refl, ℕ, ◌+◌, ◌<◌, ◌≤◌, Bool, true, false, Ok, Err}
-use Rattle.std.proofs.Common.{zero, suc, ap, arith}
+use Rattle.std.specs.Prelude.{ℕ, Bool, true, false, Ok, Err}
+use Rattle.std.proofs.Common.{zero, suc}
 use Rattle.tokens.specs.declared.stop.Stop.TheVariants.{Spent}
 use Rattle.asking.specs.Meaning.{Meant, still, ◌>>=◌}
 

@@ -1,7 +1,7 @@
 -- What a command means that may ask for files: a function of the files alone, which knows no call that fails.
 -- It gives a value with the state behind it, or an end, and on the way there each asking for a file. What was
 -- done outside before it is one more argument, the place, which no definition of a command names.
-use Rattle.std.specs.Prelude.{ℕ, ◌+◌, ◌==◌, if◌then◌else◌, List, [], ◌∷◌, ◌++◌, map, Option, Some, None, Result, Ok, Err}
+use Rattle.std.specs.Prelude.{ℕ, ◌+◌, ◌==◌, if◌then◌else◌, List, [], ◌∷◌, ◌++◌, Option, Some, None, Ok, Err}
 use Rattle.asking.specs.Did.{Did, lifted}
 
 -- what was done outside: the number of files that were asked for, and the text that the terminal has shown

@@ -1,10 +1,10 @@
 -- What is seen of the world by a call that may ask it, and what such a call says: one clause.
-use Rattle.std.specs.Prelude.{◌≡◌, ◌≢◌, ℕ, ◌<◌, ◌≤◌, Bool, true, false, cond, ◌&&◌, ◌==◌, List, [], ◌∷◌, Option, Some, None, Result, Ok, Err}
+use Rattle.std.specs.Prelude.{◌≡◌, ◌≢◌, ℕ, ◌<◌, ◌≤◌, Bool, true, false, cond, ◌&&◌, ◌==◌, List, [], ◌∷◌, Option, Some, Result, Ok, Err}
 use Rattle.tokens.specs.declared.stop.Stop.{Stop}
 use Rattle.tokens.specs.declared.stop.Stop.TheVariants.{Trouble, Capacity, Spent, ReadFault, WriteFault, OutOfMemory}
 use Rattle.world.specs.Told.{last_count}
 use Rattle.asking.specs.Did.{Did}
-use Rattle.asking.specs.Meaning.{Place, Meaning, Meant, walk, asked_at}
+use Rattle.asking.specs.Meaning.{Place, Meant, walk, asked_at}
 
 -- what stands outside: whether the world tells, and then what each name stands for, if it stands for anything
 pub record Outside : Type 0 where

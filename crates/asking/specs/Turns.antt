@@ -1,7 +1,7 @@
 -- Turns of a run, so many of them. A run has no bound in its definition: it is over where some number of turns is, and
 -- then more turns mean the same.
-use Rattle.std.specs.Prelude.{◌≡◌, refl, ℕ, ◌+◌, Bool, true, false, List, [], ◌++◌, Option, Some, None, Result, Ok, Err}
-use Rattle.std.proofs.Common.{zero, suc, ap, sym, ◌∙◌, add-zero, add-suc, append-nil}
+use Rattle.std.specs.Prelude.{◌≡◌, ℕ, ◌+◌, Bool, true, false, List, ◌++◌, Result, Ok, Err}
+use Rattle.std.proofs.Common.{zero, suc, ap, ◌∙◌, add-zero, add-suc, append-nil}
 use Rattle.tokens.specs.declared.stop.Stop.{Stop}
 use Rattle.asking.specs.Did.{Did}
 use Rattle.asking.specs.Meaning.{Place, Ask, Meaning, Meant, still, ◌>>=◌, walk, followed, asks_after, ends_after}
@@ -47,7 +47,7 @@ module _ {S : Type 0} (once : S → Meant S Bool) where
     where
       at : (ends : Did S Bool) → is_over ends ≡ true
           → (let both : Meaning S Bool = record { asks = m.asks ++ asks_after ends (one_more once) (walk m.asks place); ends = ends_after ends (one_more once) (walk m.asks place) } in both)
-              ≡ (let one : Meaning S Bool = record { asks = m.asks; ends = ends } in one)
+          ≡ (let one : Meaning S Bool = record { asks = m.asks; ends = ends } in one)
       at (Ok (true, s)) h = cc
       at (Ok (false, s)) h = ap (λ (asks : List (Ask S)). let one : Meaning S Bool = record { asks = asks; ends = Ok (false, s) } in one) (append-nil m.asks)
       at (Err e) h = ap (λ (asks : List (Ask S)). let one : Meaning S Bool = record { asks = asks; ends = Err e } in one) (append-nil m.asks)

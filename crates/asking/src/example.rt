@@ -28,7 +28,12 @@ pub struct Whole {
 impl Part {
     /// Asks for a file, and counts it where it is there.
     #[tactic(auto, using(crate::specs::Asked::asking), unfolding(crate::specs::Example::one_file))]
-    pub fn one_file<L: Library>(&mut self, alloc: Global, library: &mut L, name: &[u8]) -> Result<bool, Stop>
+    pub fn one_file<L: Library>(
+        &mut self,
+        alloc: Global,
+        library: &mut L,
+        name: &[u8],
+    ) -> Result<bool, Stop>
         ensures does { DoesBeside L.outside (L.seen library.old) (L.seen library.new) result self.new (one_file L.outside name.now self.old) }
     {
         if !is_good_name(name) {
@@ -45,7 +50,13 @@ impl Part {
 
     /// Asks for two files, one behind the other. The answer is that of the second.
     #[tactic(auto, using(crate::specs::Asked::asking), unfolding(crate::specs::Example::two_files))]
-    pub fn two_files<L: Library>(&mut self, alloc: Global, library: &mut L, first: &[u8], second: &[u8]) -> Result<bool, Stop>
+    pub fn two_files<L: Library>(
+        &mut self,
+        alloc: Global,
+        library: &mut L,
+        first: &[u8],
+        second: &[u8],
+    ) -> Result<bool, Stop>
         ensures does { DoesBeside L.outside (L.seen library.old) (L.seen library.new) result self.new (two_files L.outside first.now second.now self.old) }
     {
         self.one_file(alloc, library, first)?;
@@ -56,7 +67,13 @@ impl Part {
 impl Whole {
     /// Asks for two files on the part, and for one more, between two counts of calls.
     #[tactic(auto, using(crate::specs::Asked::asking), unfolding(crate::specs::Example::counted_files))]
-    pub fn counted_files<L: Library>(&mut self, alloc: Global, library: &mut L, first: &[u8], second: &[u8]) -> Result<bool, Stop>
+    pub fn counted_files<L: Library>(
+        &mut self,
+        alloc: Global,
+        library: &mut L,
+        first: &[u8],
+        second: &[u8],
+    ) -> Result<bool, Stop>
         ensures does { DoesBeside L.outside (L.seen library.old) (L.seen library.new) result self.new (counted_files L.outside first.now second.now self.old) }
     {
         self.part.two_files(alloc, library, first, second)?;

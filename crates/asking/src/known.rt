@@ -99,7 +99,12 @@ impl<F: Start, W: World + Drop> Library for Known<F, W> {
 
     ghost seen = { λ k. seen_of F.told (W.told k.world) k.asked (W.read_faults k.world) (W.write_faults k.world) (W.which k.world) };
 
-    fn fetch(&mut self, alloc: Global, printer: &mut Printer, name: &[u8]) -> Result<Option<Vec<u8>>, Stop> {
+    fn fetch(
+        &mut self,
+        alloc: Global,
+        printer: &mut Printer,
+        name: &[u8],
+    ) -> Result<Option<Vec<u8>>, Stop> {
         if self.asked == u64::MAX {
             return Err(Stop::OutOfMemory);
         }

@@ -21,7 +21,12 @@ pub trait Library {
     ghost seen: { Self → Seen };
 
     /// Shows what was printed, and then reads a whole file: None where no file has this name.
-    fn fetch(&mut self, alloc: Global, printer: &mut Printer, name: &[u8]) -> Result<Option<Vec<u8>>, Stop>
+    fn fetch(
+        &mut self,
+        alloc: Global,
+        printer: &mut Printer,
+        name: &[u8],
+    ) -> Result<Option<Vec<u8>>, Stop>
         requires good { IsGoodName name.now }
         ensures does { DoesBesideBy bytes_found outside (seen self.old) (seen self.new) result printer.new (fetching outside name.now printer.old) };
 

@@ -9,4 +9,4 @@ invariant_of-self g c = record {
 pub returns-clause-shows : goal.returns-clause-shows
 returns-clause-shows g c =
     show_beside _ _ _ _ _ c.flush.result _ _ _ _ _ _ c.args.self.now.known c.flush.ensures.answer c.flush.ensures.same_world
-        c.flush.ensures.read_fault c.flush.ensures.write_fault
+    c.flush.ensures.read_fault c.flush.ensures.write_fault
