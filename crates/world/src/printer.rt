@@ -122,6 +122,7 @@ impl Printer {
         ensures answer { Shows self.old.unflushed result (W.told world.old) (W.told world.new) }
         ensures read_fault { W.read_faults world.new ≡ W.read_faults world.old }
         ensures write_fault { Counts (W.told world.old) result (W.write_faults world.old) (W.write_faults world.new) }
+        ensures same_world { W.which world.new ≡ W.which world.old }
     {
         world.show(&self.unflushed)?;
         self.unflushed.clear();
