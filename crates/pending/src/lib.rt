@@ -10,4 +10,6 @@ mod pending;
 mod settle;
 mod source;
 mod sources;
+#[cfg(test)]
+mod tests;
 mod waiting;
