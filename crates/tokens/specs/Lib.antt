@@ -8,7 +8,11 @@ pub mod Same
 pub mod Shared
 pub mod TokenList
 pub mod Meaning
+pub mod Codes
+pub mod Numbered
 pub mod Primitives
+pub mod NamedCodes
+pub mod Parameters
 pub mod Names
 pub mod Buckets
 pub mod TokenText

@@ -6,8 +6,7 @@ use Rattle.std.proofs.Common.{zero, suc, arith, sym}
 use Rattle.std.proofs.lemmas.Bool.{and_parts, false≢true}
 use Rattle.tokens.specs.declared.meaning.Meaning.{Meaning}
 use Rattle.tokens.specs.declared.meaning.Meaning.TheVariants.{Undefined, Primitive, Font}
-use Rattle.tokens.specs.declared.codes.TheConstants.{NULLFONT}
-use Rattle.tokens.specs.declared.primitives.TheConstants.{COMPATIBILITY_COUNT, PRIMITIVE_COUNT}
+use Rattle.tokens.specs.Codes.{nullfont_code}
 use Rattle.tokens.specs.Names.{name_at, AreDistinct, place_of, place_of-is, IsPlace}
 
 -- expandable commands and conditions
@@ -139,9 +138,9 @@ etex_expandable_names =
     codes "firstmarks" ∷ codes "botmarks" ∷ codes "splitfirstmarks" ∷ codes "splitbotmarks" ∷
     codes "eTeXrevision" ∷ []
 
--- quantities, arrays and parameters of e-TeX
-unfoldable pub etex_quantity_names : List (List ℕ)
-etex_quantity_names =
+-- quantities and arrays of e-TeX
+abbrev pub etex_inner_quantities : List (List ℕ)
+etex_inner_quantities =
     codes "numexpr" ∷ codes "dimexpr" ∷ codes "glueexpr" ∷ codes "muexpr" ∷
     codes "gluestretch" ∷ codes "glueshrink" ∷ codes "gluestretchorder" ∷
     codes "glueshrinkorder" ∷ codes "gluetomu" ∷ codes "mutoglue" ∷ codes "fontcharwd" ∷
@@ -150,10 +149,22 @@ etex_quantity_names =
     codes "currentgrouptype" ∷ codes "currentiflevel" ∷ codes "currentiftype" ∷
     codes "currentifbranch" ∷ codes "lastnodetype" ∷ codes "interactionmode" ∷
     codes "eTeXversion" ∷ codes "interlinepenalties" ∷ codes "clubpenalties" ∷
-    codes "widowpenalties" ∷ codes "displaywidowpenalties" ∷ codes "tracingassigns" ∷
-    codes "tracinggroups" ∷ codes "tracingifs" ∷ codes "tracingscantokens" ∷
-    codes "tracingnesting" ∷ codes "savingvdiscards" ∷ codes "savinghyphcodes" ∷
-    codes "everyeof" ∷ []
+    codes "widowpenalties" ∷ codes "displaywidowpenalties" ∷ []
+
+-- integer parameters of e-TeX
+abbrev pub etex_integer_parameters : List (List ℕ)
+etex_integer_parameters =
+    codes "tracingassigns" ∷ codes "tracinggroups" ∷ codes "tracingifs" ∷
+    codes "tracingscantokens" ∷ codes "tracingnesting" ∷ codes "savingvdiscards" ∷
+    codes "savinghyphcodes" ∷ []
+
+-- token parameters of e-TeX
+abbrev pub etex_token_parameters : List (List ℕ)
+etex_token_parameters = codes "everyeof" ∷ []
+
+-- quantities, arrays and parameters of e-TeX
+unfoldable pub etex_quantity_names : List (List ℕ)
+etex_quantity_names = etex_inner_quantities ++ etex_integer_parameters ++ etex_token_parameters
 
 -- other commands of e-TeX
 unfoldable pub etex_other_names : List (List ℕ)
@@ -182,25 +193,35 @@ extended_names = etex_expandable_names ++ etex_quantity_names ++ etex_other_name
 unfoldable pub primitive_names : List (List ℕ)
 primitive_names = compatibility_names ++ extended_names
 
+-- how many names TeX has, and how many both have
+abbrev pub compatibility_count : ℕ
+compatibility_count = 325
+
+abbrev pub all_count : ℕ
+all_count = 391
+
 -- what a primitive means at the start: the empty font for `\nullfont`, else itself
 abbrev pub primitive_meaning : ℕ → Meaning
-primitive_meaning code = if code == NULLFONT then Font 0 else Primitive code
+primitive_meaning code = if code == nullfont_code then Font 0 else Primitive code
 
 -- how many of the names mean something at the start
 abbrev pub primitive_count : Bool → ℕ
-primitive_count extended = if extended then PRIMITIVE_COUNT else COMPATIBILITY_COUNT
+primitive_count extended = if extended then all_count else compatibility_count
 
 -- what the name with this id means at the start, where both tables were entered first; without the
 -- extended mode the names of e-TeX are undefined
 abbrev pub start_meaning : Bool → ℕ → Meaning
 start_meaning extended id = if nat_lt id (primitive_count extended) then primitive_meaning id else Undefined
 
--- how many names there are
-pub length-compatibility_names : length compatibility_names ≡ COMPATIBILITY_COUNT
+-- the tables are so long
+abbrev pub TablesHaveTheirLengths : Type 0
+TablesHaveTheirLengths = (length compatibility_names ≡ compatibility_count) × (length primitive_names ≡ all_count)
+
+pub length-compatibility_names : length compatibility_names ≡ compatibility_count
 unfolding primitive_names compatibility_names extended_names expandable_names integer_parameters dimension_parameters glue_parameters token_parameters quantity_names assignment_names group_names box_names left_out_names etex_expandable_names etex_quantity_names etex_other_names etex_left_out_names
 length-compatibility_names = refl
 
-pub length-primitive_names : length primitive_names ≡ PRIMITIVE_COUNT
+pub length-primitive_names : length primitive_names ≡ all_count
 unfolding primitive_names compatibility_names extended_names expandable_names integer_parameters dimension_parameters glue_parameters token_parameters quantity_names assignment_names group_names box_names left_out_names etex_expandable_names etex_quantity_names etex_other_names etex_left_out_names
 length-primitive_names = refl
 

@@ -11,8 +11,8 @@ use Rattle.tokens.specs.declared.meaning.RegKind.TheVariants.{Count, Dimen, Skip
 use Rattle.tokens.specs.declared.meaning.Macro.{Macro}
 use Rattle.tokens.specs.declared.meaning.Meaning.{Meaning}
 use Rattle.tokens.specs.declared.meaning.Meaning.TheVariants as variants
-use Rattle.tokens.specs.declared.codes.TheConstants.{TOPMARK, FIRSTMARK, BOTMARK, SPLITFIRSTMARK, SPLITBOTMARK}
 use Rattle.tokens.specs.Categories.{category}
+use Rattle.tokens.specs.Codes.{topmark_code, firstmark_code, botmark_code, splitfirstmark_code, splitbotmark_code}
 use Rattle.tokens.specs.Names.{name_at}
 use Rattle.tokens.specs.Primitives.{primitive_names}
 
@@ -93,7 +93,8 @@ register_name Toks = codes "toks"
 -- whether a primitive shows a mark
 abbrev pub is_mark_code : ℕ → Bool
 is_mark_code code =
-    (code == TOPMARK) || ((code == FIRSTMARK) || ((code == BOTMARK) || ((code == SPLITFIRSTMARK) || (code == SPLITBOTMARK))))
+    (code == topmark_code) || ((code == firstmark_code) || ((code == botmark_code)
+    || ((code == splitfirstmark_code) || (code == splitbotmark_code))))
 
 -- a flag's command, where the flag is set
 abbrev pub flag_text : ℤ → Bool → List ℕ → List ℕ
@@ -127,9 +128,14 @@ meaning_head escape above (variants.Font _) = codes "select font " ++ above
 
 -- whether a meaning has a colon with something behind it
 abbrev pub has_tail : Meaning → Bool
+has_tail variants.Undefined = false
 has_tail (variants.Primitive code) = is_mark_code code
 has_tail (variants.Macro _) = true
-has_tail _ = false
+has_tail (variants.Char cat byte) = false
+has_tail (variants.CharDef byte) = false
+has_tail (variants.MathCharDef number) = false
+has_tail (variants.Register kind number) = false
+has_tail (variants.Font font) = false
 
 -- the two texts of a macro
 abbrev pub macro_text : List (List ℕ) → List ℕ → ℤ → Macro → List ℕ
@@ -138,9 +144,14 @@ macro_text names cats escape m =
 
 -- what stands behind the colon: the texts of a macro, or the text of a mark, which is `above`
 abbrev pub meaning_tail : List (List ℕ) → List ℕ → ℤ → List ℕ → Meaning → List ℕ
-meaning_tail names cats escape above (variants.Macro m) = macro_text names cats escape m
+meaning_tail names cats escape above variants.Undefined = []
 meaning_tail names cats escape above (variants.Primitive code) = if is_mark_code code then above else []
-meaning_tail names cats escape above _ = []
+meaning_tail names cats escape above (variants.Macro m) = macro_text names cats escape m
+meaning_tail names cats escape above (variants.Char cat byte) = []
+meaning_tail names cats escape above (variants.CharDef byte) = []
+meaning_tail names cats escape above (variants.MathCharDef number) = []
+meaning_tail names cats escape above (variants.Register kind number) = []
+meaning_tail names cats escape above (variants.Font font) = []
 
 -- the whole meaning
 abbrev pub meaning_text : List (List ℕ) → List ℕ → ℤ → List ℕ → Meaning → List ℕ

@@ -26,6 +26,7 @@ mod categories;
 pub mod codes;
 mod describe;
 mod kind;
+pub mod laws;
 mod list;
 mod meaning;
 mod names;
