@@ -81,7 +81,7 @@ pub mode-undone : (extended : Bool) (saves rest : List Save) (first : ℕ) (e f 
 mode-undone extended saves rest first e f undoing front h =
     let test : Save → Bool = λ save. is_in_mode extended save.value in
     let parts = and_parts (list_all test (take first saves)) (list_all test (drop first saves))
-        (sym (list_all-append test (take first saves) (drop first saves)) ∙ ap (list_all test) (take-append-drop first saves) ∙ h.saved) in
+    (sym (list_all-append test (take first saves) (drop first saves)) ∙ ap (list_all test) (take-append-drop first saves) ∙ h.saved) in
     record {
       values = values-along extended (undone (drop first saves) e) f (λ key. ap (λ (env : Environment). env key) undoing)
           (values-undone extended (drop first saves) e parts.1 h.values);

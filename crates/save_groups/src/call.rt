@@ -21,7 +21,10 @@ pub enum Call {
         scope: Scope,
     },
     /// `Env::enter`
-    Enter { kind: u8, line: u32 },
+    Enter {
+        kind: u8,
+        line: u32,
+    },
     /// `Env::leave`
     Leave,
     /// `Env::after_group`
