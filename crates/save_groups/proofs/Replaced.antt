@@ -11,7 +11,7 @@ use Rattle.save_groups.specs.declared.key.Key.TheVariants.{Register, Parameter, 
 use Rattle.save_groups.specs.declared.value.Value.{Value}
 use Rattle.save_groups.specs.declared.value.Value.TheVariants as value
 use Rattle.save_groups.specs.declared.entry.Entry.{Entry}
-use Rattle.save_groups.specs.Parameters.{first_glue, first_tokens, first_extended, every_eof}
+use Rattle.tokens.specs.Parameters.{first_glue_place, first_token_place, first_extended_place, everyeof_place}
 use Rattle.save_groups.specs.Keys.{is_glue_parameter, is_token_parameter, holds_number, holds_glue, holds_tokens}
 use Rattle.save_groups.specs.Values.{fits, is_number_of, is_category}
 use Rattle.save_groups.specs.StartValues.{start_code, start_number, zero_glue}
@@ -192,11 +192,11 @@ list_alone place h = by_test (is_glue_parameter place) refl
     by_test : (b : Bool) → is_glue_parameter place ≡ b → is_glue_parameter place ≡ false
     by_test false e = e
     by_test true e =
-        let p = and_parts (nat_le first_glue place) (nat_lt place first_tokens) e in
-        absurd (late (nat_le first_tokens place && nat_lt place first_extended) (place == every_eof) refl refl h (ltb-true _ _ p.1))
+        let p = and_parts (nat_le first_glue_place place) (nat_lt place first_token_place) e in
+        absurd (late (nat_le first_token_place place && nat_lt place first_extended_place) (place == everyeof_place) refl refl h (ltb-true _ _ p.1))
       where
-        late : (b c : Bool) → (nat_le first_tokens place && nat_lt place first_extended) ≡ b → (place == every_eof) ≡ c → (b || c) ≡ true → place < 94 → ⊥
-        late true c e f h below = let q : 94 ≤ place = leb-true _ _ (and_parts (nat_le first_tokens place) (nat_lt place first_extended) e).0 in omega arith
+        late : (b c : Bool) → (nat_le first_token_place place && nat_lt place first_extended_place) ≡ b → (place == everyeof_place) ≡ c → (b || c) ≡ true → place < 94 → ⊥
+        late true c e f h below = let q : 94 ≤ place = leb-true _ _ (and_parts (nat_le first_token_place place) (nat_lt place first_extended_place) e).0 in omega arith
         late false true e f h below = let q : place ≡ 110 = eqb-true place 110 f in omega arith
         late false false e f h below = false≢true h
 

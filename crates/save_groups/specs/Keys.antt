@@ -5,7 +5,7 @@ use Rattle.tokens.specs.declared.meaning.RegKind.TheVariants.{Count, Dimen, Skip
 use Rattle.tokens.specs.Meaning.{same_reg_kind}
 use Rattle.save_groups.specs.declared.key.Key.{Key}
 use Rattle.save_groups.specs.declared.key.Key.TheVariants.{Register, Parameter, Code, Name, Active, CurrentFont, Family}
-use Rattle.save_groups.specs.Parameters.{first_glue, first_tokens, first_extended, every_eof, all_parameters}
+use Rattle.tokens.specs.Parameters.{first_glue_place, first_token_place, first_extended_place, everyeof_place, all_parameter_count}
 
 -- whether two keys name one entry
 abbrev pub same_key : Key → Key → Bool
@@ -61,10 +61,10 @@ same_key (Family size number) (Family s n) = (size == s) && (number == n)
 
 -- the parameters of which kind: the extended integer parameters come behind the token parameters
 abbrev pub is_glue_parameter : ℕ → Bool
-is_glue_parameter place = nat_le first_glue place && nat_lt place first_tokens
+is_glue_parameter place = nat_le first_glue_place place && nat_lt place first_token_place
 
 abbrev pub is_token_parameter : ℕ → Bool
-is_token_parameter place = (nat_le first_tokens place && nat_lt place first_extended) || (place == every_eof)
+is_token_parameter place = (nat_le first_token_place place && nat_lt place first_extended_place) || (place == everyeof_place)
 
 -- whether an entry holds a number
 abbrev pub holds_number : Key → Bool
@@ -132,7 +132,7 @@ register_limit extended = if extended then 32767 else 255
 
 -- how many parameters there are
 abbrev pub parameter_count : Bool → ℕ
-parameter_count extended = if extended then all_parameters else first_extended
+parameter_count extended = if extended then all_parameter_count else first_extended_place
 
 -- whether a mode has this entry
 abbrev pub is_key : Bool → Key → Bool

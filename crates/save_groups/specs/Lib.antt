@@ -1,5 +1,4 @@
 pub mod InsideCurrent
-pub mod Parameters
 pub mod Keys
 pub mod Values
 pub mod StartValues

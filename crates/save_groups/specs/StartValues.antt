@@ -12,7 +12,7 @@ use Rattle.save_groups.specs.declared.key.Key.{Key}
 use Rattle.save_groups.specs.declared.key.Key.TheVariants.{Register, Parameter, Code, Name, Active, CurrentFont, Family}
 use Rattle.save_groups.specs.declared.value.Value.{Value}
 use Rattle.save_groups.specs.declared.value.Value.TheVariants as value
-use Rattle.save_groups.specs.Parameters.{tolerance, mag, time, day, month, year, max_dead_cycles, hang_after, escape_char, end_line_char}
+use Rattle.tokens.specs.Parameters.{tolerance_place, mag_place, time_place, day_place, month_place, year_place, maxdeadcycles_place, hangafter_place, escapechar_place, endlinechar_place}
 use Rattle.save_groups.specs.Keys.{is_glue_parameter, is_token_parameter}
 
 abbrev pub is_capital : ℕ → Bool
@@ -60,16 +60,16 @@ start_code (suc (suc (suc (suc (suc table))))) byte = start_delcode byte
 -- the integer and dimension parameters
 abbrev pub start_number : ℕ → ℕ
 start_number place =
-    if place == tolerance then 10000
-    else if place == mag then 1000
-    else if place == time then 720
-    else if place == day then 4
-    else if place == month then 7
-    else if place == year then 1776
-    else if place == max_dead_cycles then 25
-    else if place == hang_after then 1
-    else if place == escape_char then 92
-    else if place == end_line_char then 13
+    if place == tolerance_place then 10000
+    else if place == mag_place then 1000
+    else if place == time_place then 720
+    else if place == day_place then 4
+    else if place == month_place then 7
+    else if place == year_place then 1776
+    else if place == maxdeadcycles_place then 25
+    else if place == hangafter_place then 1
+    else if place == escapechar_place then 92
+    else if place == endlinechar_place then 13
     else 0
 
 -- a glue that is nothing

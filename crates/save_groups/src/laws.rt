@@ -2,7 +2,7 @@
 ghost use Rattle.std.specs.Prelude.{◌≡◌};
 ghost use Rattle.save_groups.specs.Calls.{CallsLaw, SavesLaw, LevelsLaw, GivenLaw};
 ghost use Rattle.save_groups.specs.Examples.{NodesAreCounted};
-ghost use Rattle.save_groups.specs.Parameters.{AreNamed, AreJoined, first_dimension, first_glue, first_tokens, first_extended, every_eof, all_parameters, tolerance, mag, time, day, month, year, max_dead_cycles, hang_after, escape_char, end_line_char};
+ghost use Rattle.tokens.specs.Parameters.{first_dimension_place, first_glue_place, first_token_place, first_extended_place, everyeof_place, all_parameter_count, tolerance_place, mag_place, time_place, day_place, month_place, year_place, maxdeadcycles_place, hangafter_place, escapechar_place, endlinechar_place};
 
 use crate::parameters::{
     DAY, END_LINE_CHAR, ESCAPE_CHAR, EVERY_EOF, FIRST_DIMENSION, FIRST_EXTENDED, FIRST_GLUE,
@@ -35,24 +35,22 @@ pub fn nodes_law()
     ensures { NodesAreCounted }
 {}
 
-/// The places of parameters are those of their names in the tables of primitives.
+/// The places of parameters are those of their names (`tokens`, `parameters_have_their_places`).
 pub fn places_law()
-    ensures named { AreNamed }
-    ensures joined { AreJoined }
-    ensures first_dimension { FIRST_DIMENSION ≡ first_dimension }
-    ensures first_glue { FIRST_GLUE ≡ first_glue }
-    ensures first_tokens { FIRST_TOKENS ≡ first_tokens }
-    ensures first_extended { FIRST_EXTENDED ≡ first_extended }
-    ensures every_eof { EVERY_EOF ≡ every_eof }
-    ensures all_parameters { PARAMETER_COUNT ≡ all_parameters }
-    ensures tolerance { TOLERANCE ≡ tolerance }
-    ensures mag { MAG ≡ mag }
-    ensures time { TIME ≡ time }
-    ensures day { DAY ≡ day }
-    ensures month { MONTH ≡ month }
-    ensures year { YEAR ≡ year }
-    ensures max_dead_cycles { MAX_DEAD_CYCLES ≡ max_dead_cycles }
-    ensures hang_after { HANG_AFTER ≡ hang_after }
-    ensures escape_char { ESCAPE_CHAR ≡ escape_char }
-    ensures end_line_char { END_LINE_CHAR ≡ end_line_char }
+    ensures first_dimension { FIRST_DIMENSION ≡ first_dimension_place }
+    ensures first_glue { FIRST_GLUE ≡ first_glue_place }
+    ensures first_tokens { FIRST_TOKENS ≡ first_token_place }
+    ensures first_extended { FIRST_EXTENDED ≡ first_extended_place }
+    ensures every_eof { EVERY_EOF ≡ everyeof_place }
+    ensures all_parameters { PARAMETER_COUNT ≡ all_parameter_count }
+    ensures tolerance { TOLERANCE ≡ tolerance_place }
+    ensures mag { MAG ≡ mag_place }
+    ensures time { TIME ≡ time_place }
+    ensures day { DAY ≡ day_place }
+    ensures month { MONTH ≡ month_place }
+    ensures year { YEAR ≡ year_place }
+    ensures max_dead_cycles { MAX_DEAD_CYCLES ≡ maxdeadcycles_place }
+    ensures hang_after { HANG_AFTER ≡ hangafter_place }
+    ensures escape_char { ESCAPE_CHAR ≡ escapechar_place }
+    ensures end_line_char { END_LINE_CHAR ≡ endlinechar_place }
 {}
