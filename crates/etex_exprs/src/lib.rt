@@ -12,5 +12,3 @@ mod parts;
 mod place;
 mod scan;
 mod sort;
-#[cfg(test)]
-mod tests;
