@@ -12,3 +12,5 @@ mod parts;
 mod place;
 mod scan;
 mod sort;
+#[cfg(test)]
+mod tests;

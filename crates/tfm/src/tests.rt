@@ -74,6 +74,35 @@ fn reads_the_font_at_other_sizes(rt: HostRuntime) -> Result<(), Fail> {
     Ok(())
 }
 
+/// The same font with 2500 instructions, 2500 kerns and 2700 parameters: 30,868 bytes.
+fn large_font() -> [u8; 30_868] {
+    let mut font = [0; 30_868];
+    font[..68].copy_from_slice(&FONT[..68]);
+    font[0] = 0x1e;
+    font[1] = 0x25;
+    font[16] = 0x09;
+    font[17] = 0xc4;
+    font[18] = 0x09;
+    font[19] = 0xc4;
+    font[22] = 0x0a;
+    font[23] = 0x8c;
+    for i in 0..2500 {
+        font[68 + 4 * i] = 0x80;
+        font[69 + 4 * i] = b'A';
+        font[70 + 4 * i] = 0x80;
+    }
+    font
+}
+
+#[test]
+fn reads_a_font_of_30_kib(rt: HostRuntime) -> Result<(), Fail> {
+    let metrics = read_tfm(rt.alloc(), &large_font(), Size::Design)?;
+    assert_eq!(rt; metrics.params(), 2700);
+    assert_eq!(rt; metrics.width(b'A'), 327680);
+    assert_eq!(rt; metrics.action(Some(b'A'), b'A'), Action::Kern(0));
+    Ok(())
+}
+
 #[test]
 fn refuses_each_beginning_of_the_font(rt: HostRuntime) {
     for count in 0..104 {
