@@ -1,5 +1,5 @@
 -- The tokens of an operand, in front of which \input opens files (The TeXbook, page 215; tex.web 366, 378 and 380).
-use Rattle.std.specs.Prelude.{Bool, true, false, Ok}
+use Rattle.std.specs.Prelude.{Bool, true, false, if◌then◌else◌, Ok}
 use Rattle.tokens.specs.declared.token.Token.{Token}
 use Rattle.tokens.specs.declared.token.Token.TheVariants.{Frozen}
 use Rattle.asking.specs.Loops.{rounds}

@@ -1,6 +1,6 @@
-use Rattle.std.proofs.Common.{[]}
-use Rattle.stomach.specs.Gather.{gathered}
-use Rattle.asking.specs.Leads.{leads_start, leads_more, leads_enough, leads_end}
+use Rattle.std.proofs.Common.{Bool, [], sym, subst}
+use Rattle.stomach.specs.Gather.{Gathered, gathered}
+use Rattle.asking.specs.Leads.{Leads, leads_start, leads_more, leads_enough, leads_end}
 use Rattle.stomach.specs.Again.{end_seen}
 use Rattle.stomach.specs.Message.{text_turn, balanced_text}
 use Rattle.stomach.specs.Work.{work}
@@ -8,7 +8,11 @@ use Rattle.stomach.proofs.state.State.balanced_text.Goals as goal
 
 pub text-init : goal.text-init
 text-init g c =
-    leads_start g.L.Library.outside work (text_turn g.L.Library.outside) (g.L.Library.seen c.args.library.now) (gathered [] 0) c.args.self.now
+    let P : Gathered → Type 0 = λ text.
+    Leads g.L.Library.outside work (text_turn g.L.Library.outside) (g.L.Library.seen c.args.library.now) (g.L.Library.seen c.args.library.now)
+    (gathered [] 0) c.args.self.now text c.args.self.now in
+    subst P (sym c.new-text.ensures)
+    (leads_start g.L.Library.outside work (text_turn g.L.Library.outside) (g.L.Library.seen c.args.library.now) (gathered [] 0) c.args.self.now)
 
 pub text-preserved : goal.text-preserved
 text-preserved g c =
@@ -30,4 +34,4 @@ returns-in-Err-clause-does g c =
     leads_end g.L.Library.outside work (text_turn g.L.Library.outside) (g.L.Library.seen c.args.library.now) (gathered [] 0) c.args.self.now
     (g.L.Library.seen c.text.library) (g.L.Library.seen c.text_turn.new.library) c.text.text c.text.self c.text_turn.new.self c.in-Err.stop
     c.text.invariant
-    (end_seen _ (λ v. v) g.L.Library.outside (g.L.Library.seen c.text.library) (g.L.Library.seen c.text_turn.new.library) c.in-Err.stop c.text_turn.new.self _ c.in-Err.ensures.does)
+    (end_seen (λ (more : Bool). (more, c.text_turn.new.text)) (λ v. v) g.L.Library.outside (g.L.Library.seen c.text.library) (g.L.Library.seen c.text_turn.new.library) c.in-Err.stop c.text_turn.new.self _ c.in-Err.ensures.does)

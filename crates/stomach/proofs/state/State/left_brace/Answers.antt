@@ -1,3 +1,4 @@
+use Rattle.std.proofs.Common.{Bool}
 use Rattle.asking.specs.Leads.{leads_start, leads_more, leads_enough, leads_end}
 use Rattle.stomach.specs.Again.{end_seen}
 use Rattle.stomach.specs.Message.{brace_turn, left_brace}
@@ -28,4 +29,4 @@ returns-in-Err-clause-does g c =
     leads_end g.L.Library.outside work (brace_turn g.L.Library.outside) (g.L.Library.seen c.args.library.now) tt c.args.self.now
     (g.L.Library.seen c.brace.library) (g.L.Library.seen c.brace_turn.new.library) tt c.brace.self c.brace_turn.new.self c.in-Err.stop
     c.brace.invariant
-    (end_seen _ (λ v. v) g.L.Library.outside (g.L.Library.seen c.brace.library) (g.L.Library.seen c.brace_turn.new.library) c.in-Err.stop c.brace_turn.new.self _ c.in-Err.ensures.does)
+    (end_seen (λ (more : Bool). (more, tt)) (λ v. v) g.L.Library.outside (g.L.Library.seen c.brace.library) (g.L.Library.seen c.brace_turn.new.library) c.in-Err.stop c.brace_turn.new.self _ c.in-Err.ensures.does)

@@ -1,4 +1,4 @@
-use Rattle.std.proofs.Common.{arith}
+use Rattle.std.proofs.Common.{Bool, arith}
 use Rattle.tokens.specs.declared.token.Token.TheVariants.{Frozen}
 use Rattle.asking.specs.Leads.{leads_start, leads_more, leads_enough, leads_end}
 use Rattle.stomach.specs.Again.{end_seen}
@@ -30,4 +30,4 @@ returns-in-Err-clause-does g c =
     leads_end g.L.Library.outside work (expanded_turn g.L.Library.outside) (g.L.Library.seen c.args.library.now) (Frozen 0) c.args.self.now
     (g.L.Library.seen c.files.library) (g.L.Library.seen c.expanded_turn.new.library) c.files.token c.files.self c.expanded_turn.new.self c.in-Err.stop
     c.files.invariant
-    (end_seen _ (λ v. v) g.L.Library.outside (g.L.Library.seen c.files.library) (g.L.Library.seen c.expanded_turn.new.library) c.in-Err.stop c.expanded_turn.new.self _ c.in-Err.ensures.does)
+    (end_seen (λ (more : Bool). (more, c.expanded_turn.new.token)) (λ v. v) g.L.Library.outside (g.L.Library.seen c.files.library) (g.L.Library.seen c.expanded_turn.new.library) c.in-Err.stop c.expanded_turn.new.self _ c.in-Err.ensures.does)
