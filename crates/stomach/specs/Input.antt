@@ -1,5 +1,5 @@
 -- Opening a file (The TeXbook, page 214; tex.web 537 and 538).
-use Rattle.std.specs.Prelude.{ℕ, pos, true, false, ◌==◌, nat_lt, if◌then◌else◌, Option, None, Some, List, ◌∷◌, length, Ok, Err}
+use Rattle.std.specs.Prelude.{ℕ, pos, true, nat_lt, if◌then◌else◌, Option, None, Some, List, ◌∷◌, Ok, Err}
 use Rattle.tokens.specs.Cap.{cap_limit}
 use Rattle.tokens.specs.declared.cap.Cap.TheVariants.{Inputs}
 use Rattle.tokens.specs.declared.kind.Kind.TheVariants.{FileNotFound}
@@ -13,7 +13,6 @@ use Rattle.asking.specs.Meaning.{Meant, still, within, ◌>>=◌}
 use Rattle.asking.specs.Seen.{Outside}
 use Rattle.stomach.specs.declared.pending.Item.TheVariants.{From}
 use Rattle.stomach.specs.declared.state.State.{State}
-use Rattle.stomach.specs.FileName.{file_of, job_of}
 use Rattle.stomach.specs.NamedFile.{named_file, naming_line}
 use Rattle.stomach.specs.Pending.{open_files}
 use Rattle.stomach.specs.Report.{file_begun}

@@ -106,7 +106,13 @@ impl State {
     }
 
     /// A second digit counts where the value of both is at most 15.
-    fn more_digits<L: Library>(&mut self, alloc: Global, library: &mut L, first: u8, token: Token) -> Result<u8, Stop>
+    fn more_digits<L: Library>(
+        &mut self,
+        alloc: Global,
+        library: &mut L,
+        first: u8,
+        token: Token,
+    ) -> Result<u8, Stop>
         requires { first < 10 }
         ensures does { DoesBeside L.outside (L.seen library.old) (L.seen library.new) result self.new
             (more_digits L.outside first (token, self.old)) }
@@ -127,7 +133,12 @@ impl State {
 
     /// One space behind a number is absorbed.
     #[tactic(auto, using(asking::specs::Asked::asking), unfolding(crate::specs::Catcode::after_number))]
-    fn after_number<L: Library>(&mut self, alloc: Global, library: &mut L, value: u8) -> Result<u8, Stop>
+    fn after_number<L: Library>(
+        &mut self,
+        alloc: Global,
+        library: &mut L,
+        value: u8,
+    ) -> Result<u8, Stop>
         ensures does { DoesBeside L.outside (L.seen library.old) (L.seen library.new) result self.new
             (after_number L.outside value self.old) }
         ensures less { OnOk result (work self.new ≤ work self.old) }

@@ -63,4 +63,3 @@ fn only_byte(name: &[u8]) -> Option<u8>
         _ => None,
     }
 }
-

@@ -15,7 +15,11 @@ use tokens::{Stop, Token};
 impl State {
     /// Takes the next token of an operand. Files that `\input` names in front of it are opened, and the ends of files
     /// are shown.
-    pub fn operand_token<L: Library>(&mut self, alloc: Global, library: &mut L) -> Result<Token, Stop>
+    pub fn operand_token<L: Library>(
+        &mut self,
+        alloc: Global,
+        library: &mut L,
+    ) -> Result<Token, Stop>
         ensures does { DoesBeside L.outside (L.seen library.old) (L.seen library.new) result self.new (operand_token L.outside self.old) }
         ensures less { OnOk result (work self.new + 3 ≤ work self.old) }
     {
@@ -31,7 +35,12 @@ impl State {
 
     /// Takes a token, and opens a file at `\input`. The answer is whether a token is still wanted.
     #[tactic(auto, using(asking::specs::Asked::asking), unfolding(crate::specs::Expanded::expanded_turn))]
-    fn expanded_turn<L: Library>(&mut self, alloc: Global, library: &mut L, token: &mut Token) -> Result<bool, Stop>
+    fn expanded_turn<L: Library>(
+        &mut self,
+        alloc: Global,
+        library: &mut L,
+        token: &mut Token,
+    ) -> Result<bool, Stop>
         ensures does { DoesBesideBy (λ more. (more, token.new)) L.outside (L.seen library.old) (L.seen library.new) result self.new
             (expanded_turn L.outside token.old self.old) }
         ensures less { IfOk result (λ more. work self.new + (if more then 1 else 3) ≤ work self.old) }

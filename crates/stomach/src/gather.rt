@@ -84,7 +84,12 @@ impl GatheredText {
 
 impl State {
     /// Puts a token into a text.
-    pub fn gather_token(&mut self, alloc: Global, text: &mut GatheredText, token: Token) -> Result<bool, Stop>
+    pub fn gather_token(
+        &mut self,
+        alloc: Global,
+        text: &mut GatheredText,
+        token: Token,
+    ) -> Result<bool, Stop>
         ensures does { DoesBy (λ more. (more, text.new)) result self.new (gather_token text.old (token, self.old)) }
         ensures same { OnOk result (self.new ≡ self.old) }
     {

@@ -42,7 +42,12 @@ impl State {
 
     /// Opens a file. A name that isn't good stands for no file, and isn't asked for outside.
     #[tactic(auto, using(asking::specs::Asked::asking), unfolding(crate::specs::Input::open_file))]
-    fn open_file<L: Library>(&mut self, alloc: Global, library: &mut L, file: &[u8]) -> Result<(), Stop>
+    fn open_file<L: Library>(
+        &mut self,
+        alloc: Global,
+        library: &mut L,
+        file: &[u8],
+    ) -> Result<(), Stop>
         ensures does { DoesBeside L.outside (L.seen library.old) (L.seen library.new) result self.new (open_file L.outside file.now self.old) }
         ensures less { OnOk result (work self.new ≤ work self.old + 1) }
     {

@@ -112,7 +112,11 @@ impl State {
     }
 
     /// Takes the tokens up to the right brace of the text. Files that `\input` names are opened.
-    fn balanced_text<L: Library>(&mut self, alloc: Global, library: &mut L) -> Result<GatheredText, Stop>
+    fn balanced_text<L: Library>(
+        &mut self,
+        alloc: Global,
+        library: &mut L,
+    ) -> Result<GatheredText, Stop>
         ensures does { DoesBeside L.outside (L.seen library.old) (L.seen library.new) result self.new
             (balanced_text L.outside self.old) }
         ensures less { OnOk result (work self.new ≤ work self.old) }
@@ -129,7 +133,12 @@ impl State {
 
     /// Takes a token of a text. The answer is whether the text goes on.
     #[tactic(auto, using(asking::specs::Asked::asking), unfolding(crate::specs::Message::text_turn))]
-    fn text_turn<L: Library>(&mut self, alloc: Global, library: &mut L, text: &mut GatheredText) -> Result<bool, Stop>
+    fn text_turn<L: Library>(
+        &mut self,
+        alloc: Global,
+        library: &mut L,
+        text: &mut GatheredText,
+    ) -> Result<bool, Stop>
         ensures does { DoesBesideBy (λ more. (more, text.new)) L.outside (L.seen library.old) (L.seen library.new) result self.new
             (text_turn L.outside text.old self.old) }
         ensures less { OnOk result (work self.new < work self.old) }

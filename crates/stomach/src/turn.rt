@@ -40,7 +40,12 @@ impl State {
         self.by_event(alloc, library, event)
     }
 
-    fn by_event<L: Library>(&mut self, alloc: Global, library: &mut L, event: Event) -> Result<bool, Stop>
+    fn by_event<L: Library>(
+        &mut self,
+        alloc: Global,
+        library: &mut L,
+        event: Event,
+    ) -> Result<bool, Stop>
         ensures does { DoesBeside L.outside (L.seen library.old) (L.seen library.new) result self.new
             (by_event L.outside (event, self.old)) }
         ensures less { OnOk result (work self.new < work self.old + worth event) }
