@@ -1,6 +1,6 @@
 -- \catcode with a character constant in front of `=` and a category behind it (The TeXbook, page 39 and
 -- chapter 24; tex.web 440 to 445 and 1232). Other forms of the two numbers are left out.
-use Rattle.std.specs.Prelude.{ℕ, ◌+◌, ◌-◌, ◌*◌, Bool, false, ◌==◌, ◌&&◌, nat_le, if◌then◌else◌, Option, None, Some, List, Ok, slice_set}
+use Rattle.std.specs.Prelude.{ℕ, ◌+◌, ◌-◌, ◌*◌, Bool, false, ◌==◌, ◌&&◌, nat_le, if◌then◌else◌, Option, None, Some, Ok, slice_set}
 use Rattle.tokens.specs.declared.token.Token.{Token}
 use Rattle.tokens.specs.declared.token.Token.TheVariants.{Char, Active, Name, Arg, Frozen}
 use Rattle.asking.specs.Did.{Did}

@@ -1,5 +1,4 @@
-use Rattle.std.proofs.Common.{rules, sym, ◌∙◌}
-use Rattle.stomach.specs.Pending.{open_files}
+use Rattle.std.proofs.Common.{rules}
 use Rattle.stomach.proofs.Items.{open_files-reverse}
 use Rattle.stomach.proofs.pending.count_files.Goals as goal
 
