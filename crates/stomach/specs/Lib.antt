@@ -17,3 +17,7 @@ pub mod Catcode
 pub mod Gather
 pub mod Message
 pub mod Turn
+pub mod Ending
+pub mod Faults
+pub mod Running
+pub mod Machine

@@ -2,6 +2,8 @@
 //! (The TeXbook, chapters 13 and 24; `tex.web`, parts 46 to 51).
 #![tactic(auto, using(asking::specs::Asked::asking))]
 
+pub use ending::Exit;
+pub use machine::{Ended, Machine, Start, turns_law};
 pub use pending::{Item, Pending};
 pub use source::Source;
 pub use state::State;
@@ -9,10 +11,12 @@ pub use state::State;
 mod catcode;
 mod character;
 mod command;
+mod ending;
 mod expanded;
 mod file_name;
 mod gather;
 mod input;
+mod machine;
 mod message;
 mod name;
 mod named_file;
