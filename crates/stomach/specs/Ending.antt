@@ -1,6 +1,5 @@
 -- How a run ends, and what is shown then (tex.web 93 to 95, 642 and 1333 to 1335).
 use Rattle.std.specs.Prelude.{◌≡◌, ◌<◌, ℕ, min, Option, Some, None, Result, Bool, true, false, List, [], ◌++◌, Ok, Err, codes}
-use Rattle.std.specs.declared.alloc.AllocError.{AllocError}
 use Rattle.tokens.specs.Cap.{cap_text}
 use Rattle.tokens.specs.Kind.{kind_text}
 use Rattle.tokens.specs.declared.stop.Stop.{Stop}
