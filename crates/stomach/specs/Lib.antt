@@ -21,3 +21,4 @@ pub mod Ending
 pub mod Faults
 pub mod Running
 pub mod Machine
+pub mod Example

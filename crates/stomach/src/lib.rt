@@ -3,6 +3,7 @@
 #![tactic(auto, using(asking::specs::Asked::asking))]
 
 pub use ending::Exit;
+pub use example::worked_run;
 pub use machine::{Ended, Machine, Start, turns_law};
 pub use pending::{Item, Pending};
 pub use source::Source;
@@ -12,6 +13,7 @@ mod catcode;
 mod character;
 mod command;
 mod ending;
+mod example;
 mod expanded;
 mod file_name;
 mod gather;
