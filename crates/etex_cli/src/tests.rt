@@ -5,6 +5,8 @@ use std::test::Fail;
 use stomach::{Exit, Machine, Start};
 use world::{HonestWorld, World, WorldError};
 
+mod inputs;
+
 /// The line that gives braces, `#` and `^` their categories.
 const LINE: &str = "\\catcode`\\{=1 \\catcode`\\}=2 \\catcode`\\#=6 \\catcode`\\^=7\n";
 
@@ -174,29 +176,12 @@ fn files_that_end(rt: HostRuntime) -> Result<(), Fail> {
             "(e.tex)\n! No \\end found.\nNo pages of output.\n"
         )?
     );
-    let left_out = "(a.tex)\n! Left out: operand.\nNo pages of output.\n";
-    assert!(rt; shows(alloc, "a", "a.tex", "\\catcode", Exit::Trouble, left_out)?);
-    assert!(rt;
-        shows(
-            alloc,
-            "a",
-            "a.tex",
-            "\\catcode`a=1%",
-            Exit::Trouble,
-            left_out
-        )?
-    );
-    assert!(rt;
-        shows(
-            alloc,
-            "a",
-            "a.tex",
-            "\\catcode`a=12%",
-            Exit::Trouble,
-            left_out
-        )?
-    );
-    assert!(rt; runs(alloc, "a", "a.tex", "\\message{x", Exit::Trouble, left_out)?);
+    let passed = "(a.tex)\n! No \\end found.\nNo pages of output.\n";
+    assert!(rt; shows(alloc, "a", "a.tex", "\\catcode", Exit::Trouble, passed)?);
+    assert!(rt; shows(alloc, "a", "a.tex", "\\catcode`a=1%", Exit::Trouble, passed)?);
+    assert!(rt; shows(alloc, "a", "a.tex", "\\catcode`a=12%", Exit::Trouble, passed)?);
+    let ended = "(a.tex)\n! File ended while scanning.\nNo pages of output.\n";
+    assert!(rt; runs(alloc, "a", "a.tex", "\\message{x", Exit::Trouble, ended)?);
     Ok(())
 }
 

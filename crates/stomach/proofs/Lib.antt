@@ -1,10 +1,3 @@
 pub mod Looking
 pub mod Items
-pub mod Falls
-pub mod NameFalls
-pub mod MessageFalls
-pub mod TurnFalls
-pub mod Faultless
-pub mod Counting
-pub mod Hearing
-pub mod Turns
+pub mod Finishing

@@ -1,15 +1,15 @@
 -- \catcode with a character constant in front of `=` and a category behind it (The TeXbook, page 39 and
--- chapter 24; tex.web 1232). Other forms of the two numbers are left out.
-use Rattle.std.specs.Prelude.{ℕ, ◌+◌, ◌-◌, ◌*◌, Bool, false, ◌==◌, ◌&&◌, nat_le, if◌then◌else◌, Option, None, Some, List, [], ◌∷◌, Ok, codes, slice_set}
+-- chapter 24; tex.web 440 to 445 and 1232). Other forms of the two numbers are left out.
+use Rattle.std.specs.Prelude.{ℕ, ◌+◌, ◌-◌, ◌*◌, Bool, false, ◌==◌, ◌&&◌, nat_le, if◌then◌else◌, Option, None, Some, Ok, slice_set}
 use Rattle.tokens.specs.declared.token.Token.{Token}
 use Rattle.tokens.specs.declared.token.Token.TheVariants.{Char, Active, Name, Arg, Frozen}
-use Rattle.tokens.specs.Names.{name_at}
+use Rattle.asking.specs.Did.{Did}
+use Rattle.asking.specs.Meaning.{Meant, still, ◌>>=◌}
+use Rattle.asking.specs.Seen.{Outside}
 use Rattle.stomach.specs.declared.state.State.{State}
-use Rattle.stomach.specs.Did.{Did, ◌>>=◌}
-use Rattle.stomach.specs.Operand.{operand_token, put_back, left_out}
-
-abbrev pub wrong_operand : {A : Type 0} → State → Did State A
-wrong_operand s = left_out (codes "operand") s
+use Rattle.stomach.specs.Character.{named_character, or_wrong}
+use Rattle.stomach.specs.Expanded.{operand_token}
+use Rattle.stomach.specs.Operand.{put_back, wrong_operand}
 
 -- whether a token is this character, of category 12
 abbrev pub is_other : ℕ → Token → Bool
@@ -23,32 +23,8 @@ abbrev pub exact : ℕ → Token × State → Did State (Unit {0})
 exact byte t = if is_other byte t.0 then Ok (tt, t.1) else wrong_operand t.1
 
 -- this character, of category 12
-unfoldable pub exactly : ℕ → State → Did State (Unit {0})
-exactly byte s = operand_token s >>= exact byte
-
--- a name that is one byte long stands for it
-abbrev pub only_byte : List ℕ → Option ℕ
-only_byte [] = None
-only_byte (byte ∷ []) = Some byte
-only_byte (byte ∷ next ∷ rest) = None
-
--- the byte that a token names behind a grave accent: any character, or a name of one byte
-abbrev pub named_byte : List (List ℕ) → Token → Option ℕ
-named_byte names (Char cat byte) = Some byte
-named_byte names (Active byte) = Some byte
-named_byte names (Name id) = only_byte (name_at names id.0)
-named_byte names (Arg number) = None
-named_byte names (Frozen number) = None
-
-abbrev pub or_wrong : State → Option ℕ → Did State ℕ
-or_wrong s None = wrong_operand s
-or_wrong s (Some n) = Ok (n, s)
-
-abbrev pub byte_of : Token × State → Did State ℕ
-byte_of t = or_wrong t.1 (named_byte t.1.names t.0)
-
-unfoldable pub named_character : State → Did State ℕ
-named_character s = operand_token s >>= byte_of
+unfoldable pub exactly : Outside → ℕ → State → Meant State (Unit {0})
+exactly o byte s = operand_token o s >>= (λ t. still (exact byte t))
 
 -- the value of a decimal digit
 abbrev pub digit_value : Token → Option ℕ
@@ -61,8 +37,8 @@ digit_value (Frozen number) = None
 abbrev pub digit_of : Token × State → Did State ℕ
 digit_of t = or_wrong t.1 (digit_value t.0)
 
-unfoldable pub digit : State → Did State ℕ
-digit s = operand_token s >>= digit_of
+unfoldable pub digit : Outside → State → Meant State ℕ
+digit o s = operand_token o s >>= (λ t. still (digit_of t))
 
 abbrev pub is_space : Token → Bool
 is_space (Char cat byte) = cat == 10
@@ -75,31 +51,33 @@ is_space (Frozen number) = false
 abbrev pub number_over : ℕ → Token × State → Did State ℕ
 number_over value t = if is_space t.0 then Ok (value, t.1) else Ok (value, put_back t.0 t.1)
 
-unfoldable pub after_number : ℕ → State → Did State ℕ
-after_number value s = operand_token s >>= number_over value
+unfoldable pub after_number : Outside → ℕ → State → Meant State ℕ
+after_number o value s = operand_token o s >>= (λ t. still (number_over value t))
 
 -- a second digit counts where the value of both is at most 15
-abbrev pub second_digit : ℕ → Token × State → Option ℕ → Did State ℕ
-second_digit first t None = number_over first t
-second_digit first t (Some second) =
-    if nat_le (10 * first + second) 15 then after_number (10 * first + second) t.1 else number_over first t
+abbrev pub second_digit : Outside → ℕ → Token × State → Option ℕ → Meant State ℕ
+second_digit o first t None = still (number_over first t)
+second_digit o first t (Some second) =
+    if nat_le (10 * first + second) 15 then after_number o (10 * first + second) t.1 else still (number_over first t)
 
-abbrev pub more_digits : ℕ → Token × State → Did State ℕ
-more_digits first t = second_digit first t (digit_value t.0)
+abbrev pub more_digits : Outside → ℕ → Token × State → Meant State ℕ
+more_digits o first t = second_digit o first t (digit_value t.0)
 
-unfoldable pub category_number : State → Did State ℕ
-category_number s = do
-  first ← digit s
-  next ← operand_token first.1
-  more_digits first.0 next
+-- a category, 0 to 15
+unfoldable pub category_number : Outside → State → Meant State ℕ
+category_number o s = do
+  first ← digit o s
+  next ← operand_token o first.1
+  more_digits o first.0 next
 
-abbrev pub with_category : ℕ → ℕ → State → State
-with_category byte cat s = record s { categories = slice_set s.categories byte cat }
+-- the byte has this category from now on
+unfoldable pub with_category : ℕ → ℕ → State → Did State (Unit {0})
+with_category byte cat s = Ok (tt, record s { categories = slice_set s.categories byte cat })
 
-unfoldable pub catcode : State → Did State (Unit {0})
-catcode s = do
-  accent ← exactly 96 s
-  byte ← named_character accent.1
-  equals ← exactly 61 byte.1
-  cat ← category_number equals.1
-  Ok (tt, with_category byte.0 cat.0 cat.1)
+unfoldable pub catcode : Outside → State → Meant State (Unit {0})
+catcode o s = do
+  accent ← exactly o 96 s
+  byte ← still (named_character accent.1)
+  equals ← exactly o 61 byte.1
+  cat ← category_number o equals.1
+  still (with_category byte.0 cat.0 cat.1)

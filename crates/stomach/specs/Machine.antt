@@ -1,21 +1,23 @@
--- The whole run: its beginning, turn after turn, and its ending. It is a function of the files outside,
--- of the fetch that fails, of the first line and of the number of steps that it may take.
-use Rattle.std.specs.Prelude.{◌≡◌, refl, ℕ, negsuc, Bool, true, false, not, ◌==◌, List, [], ◌∷◌, ◌≤◌, ◌+◌, if◌then◌else◌}
-use Rattle.std.proofs.Common.{arith}
+-- The whole run: its beginning, turn after turn, and its ending. It is a function of the files outside, of the first
+-- line and of the number of turns; it is over where these turns are.
+use Rattle.std.specs.Prelude.{◌≡◌, ℕ, negsuc, Bool, true, false, not, ◌==◌, List, [], ◌∷◌, ◌++◌, Option, Some, is_some}
 use Rattle.tokens.specs.Budget.{unused}
 use Rattle.tokens.specs.Categories.{initial_categories}
 use Rattle.tokens.specs.Primitives.{primitive_names}
 use Rattle.catcode_eye.specs.Lines.{source_lines}
 use Rattle.catcode_eye.specs.Outlook.{before_lines}
+use Rattle.world.specs.Calls.{WhereTold}
 use Rattle.world.specs.Output.{nothing_yet}
+use Rattle.world.specs.Told.{Told}
+use Rattle.asking.specs.Known.{counted_more, outside_of}
+use Rattle.asking.specs.Meaning.{Place, Meaning}
+use Rattle.asking.specs.Seen.{Outside}
+use Rattle.asking.specs.Turns.{turns, OverLaw, ShownLaw}
+use Rattle.stomach.specs.declared.machine.Ended.{Ended}
 use Rattle.stomach.specs.declared.pending.Item.TheVariants.{From}
 use Rattle.stomach.specs.declared.state.State.{State}
-use Rattle.stomach.specs.Again.{again, go_on}
-use Rattle.stomach.specs.Did.{Did, ◌>>=◌}
-use Rattle.stomach.specs.Ending.{Outcome, outcome_of}
-use Rattle.stomach.specs.Outside.{Outside}
+use Rattle.stomach.specs.Ending.{EndsBy}
 use Rattle.stomach.specs.Turn.{turn}
-use Rattle.stomach.specs.Work.{work, asks}
 
 -- whether the first line names a file: it isn't empty, and doesn't begin with an escape character
 abbrev pub begins_with_name : List ℕ → Bool
@@ -33,41 +35,49 @@ beginning line budget = record {
   names_file = begins_with_name line;
   job = [];
   asked = [];
-  fetches = 0;
 }
 
--- the turns of a run, until it ends
-unfoldable pub turns : Outside → State → Did State (Unit {0})
-turns outside s = again work (turn outside) s
+-- a run: the state that it has come to, and the steps that it was given
+pub record Run : Type 0 where
+  pub state : State
+  pub steps : ℕ
 
--- the run on a first line
-unfoldable pub run : Outside → List ℕ → ℕ → Outcome
-run outside line budget = outcome_of (turns outside (beginning line budget))
+-- a run on a first line, before its first turn
+abbrev pub new_run : List ℕ → ℕ → Run
+new_run line budget = record { state = beginning line budget; steps = budget }
 
--- the law of the turns: one turn, and then those of the state that it leaves, if the run goes on
+-- nothing was asked for, and nothing shown
+abbrev pub at_start : Place
+at_start = record { asked = 0; shown = [] }
+
+-- so many turns of a run
+abbrev pub run : Outside → ℕ → State → Meaning State Bool
+run o n state = turns (turn o) n state at_start
+
+-- the laws of turns: once the run is over, more turns mean the same; and a beginning of what some turns show is one of
+-- what more turns show
 abbrev pub TurnsLaw : Type 0
-TurnsLaw = (outside : Outside) (s : State) → turns outside s ≡ (turn outside s >>= go_on (turns outside))
+TurnsLaw = (o : Outside) → OverLaw (turn o) × ShownLaw (turn o)
 
--- what the turns are
-pub turns-is : (outside : Outside) → (s : State) → turns outside s ≡ again work (turn outside) s
-unfolding turns
-turns-is outside s = refl
+-- a run ended so: the terminal shows its text behind what it showed before, so many more files were fetched, no file
+-- changed, and for some number of turns its exit, its text, its steps and its fetches are those of the outcome
+pub record IsRun (m : ℕ → Meaning State Bool) (given : ℕ) (ended : Ended) (before after : Told) (reads reads_after : ℕ) : Type 0 where
+  pub text : List ℕ
+  pub terminal : after.terminal ≡ before.terminal ++ text
+  pub fetched : after.fetched ≡ counted_more ended.fetches before.fetched
+  pub files : after.files ≡ before.files
+  pub turns : ℕ
+  pub ends : EndsBy ended.exit (m turns) given at_start text ended.steps ended.fetches reads reads_after
 
--- what a run is
-pub run-is : (outside : Outside) (line : List ℕ) (budget : ℕ) → run outside line budget ≡ outcome_of (turns outside (beginning line budget))
-unfolding run
-run-is outside line budget = refl
+-- the run from a state over what a world told
+abbrev pub RunsFrom : State → ℕ → Ended → Option Told → Option Told → ℕ → ℕ → Type 0
+RunsFrom first given ended old new reads reads_after =
+    WhereTold (λ t u. IsRun (λ n. run (outside_of (Some t)) n first) given ended t u reads reads_after) old new
 
--- at the beginning nothing was asked for
-pub beginning-fetches : (line : List ℕ) (budget : ℕ) → (beginning line budget).fetches ≡ 0
-unfolding beginning
-beginning-fetches line budget = refl
+-- whether a world tells
+abbrev pub tells : Option Told → Bool
+tells told = is_some told
 
--- a run asks for one file at most
-pub beginning-asks : (line : List ℕ) (budget : ℕ) → asks (beginning line budget) ≤ 1
-unfolding beginning
-beginning-asks line budget = at (begins_with_name line)
-  where
-    at : (b : Bool) → 0 + (if b then 1 else 0) ≤ 1
-    at true = omega arith
-    at false = omega arith
+-- no file changed
+abbrev pub SameFiles : Option Told → Option Told → Type 0
+SameFiles old new = WhereTold (λ t u. u.files ≡ t.files) old new

@@ -3,11 +3,11 @@
 use Rattle.std.specs.Prelude.{ℕ, ◌+◌, ◌||◌, not, ◌==◌, nat_lt, if◌then◌else◌, List, [], ◌∷◌, length, codes}
 use Rattle.world.specs.declared.target.Target.TheVariants.{Both}
 use Rattle.world.specs.Output.{Output, after_print, after_end_line, after_fresh_line}
-use Rattle.stomach.specs.declared.start_values.TheConstants.{NEW_LINE_CHARACTER}
+use Rattle.stomach.specs.StartValues.{new_line_character}
 
 -- bytes on terminal and log
 abbrev pub shown : List ℕ → Output → Output
-shown bytes o = after_print Both bytes NEW_LINE_CHARACTER o
+shown bytes o = after_print Both bytes new_line_character o
 
 -- room for a text of some bytes: where it would pass column 77 of the terminal the line is ended; else a
 -- space stands in front of it, unless terminal and log are at the beginning of a line

@@ -16,7 +16,7 @@ use Rattle.catcode_eye.specs.declared.seen.Seen.TheVariants.{Char as SeenChar, A
 use Rattle.catcode_eye.specs.Outlook.{Outlook, next_seen, next_line, with_line, with_sight, behind_word}
 use Rattle.catcode_eye.specs.Seen.{Sight, sight}
 use Rattle.catcode_eye.specs.declared.seen.State.{State}
-use Rattle.stomach.specs.Did.{Did}
+use Rattle.asking.specs.Did.{Did}
 
 -- what reading from one source looks at and changes
 pub record Looking : Type 0 where
@@ -113,6 +113,11 @@ EndsUnpaid budget Spent result = result ≡ unpaid budget Spent
 EndsUnpaid budget ReadFault result = result ≡ unpaid budget ReadFault
 EndsUnpaid budget WriteFault result = result ≡ unpaid budget WriteFault
 EndsUnpaid budget OutOfMemory result = result ≡ OutOfMemory
+
+-- the steps of which a token is worth one, and the end of a source none
+abbrev pub token_cost : Option Token → ℕ
+token_cost None = 0
+token_cost (Some token) = 1
 
 -- ---- the law of taking from a source: what is seen decides, and behind a line's end it is taken from again
 

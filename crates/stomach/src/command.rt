@@ -1,8 +1,8 @@
 //! What a token does when it is executed (The TeXbook, chapter 24; `tex.web` 1045).
 ghost use Rattle.std.specs.Prelude.{◌≡◌};
-ghost use Rattle.stomach.specs.Command.{command_named, command_of, is_undefined, is_relax};
+ghost use Rattle.stomach.specs.Command.{command_named, command_of, is_undefined, is_relax, is_input};
 
-use tokens::codes::{CATCODE, END, MESSAGE, PAR, RELAX};
+use tokens::codes::{CATCODE, END, INPUT, MESSAGE, PAR, RELAX};
 use tokens::{NameId, Token};
 
 /// What is done with a token that is executed.
@@ -14,6 +14,7 @@ pub enum Command {
     End,
     Catcode,
     Message,
+    Input,
     /// A name or an active character without a meaning.
     Undefined,
     /// A character, which would begin a paragraph.
@@ -41,17 +42,20 @@ pub fn command_of(token: Token) -> Command
 
 /// What a name does. The names of the tables stand first in the table of names, so that a primitive's place
 /// there is its code.
-fn command_named(id: NameId) -> Command
+#[tactic(auto, unfolding(crate::specs::Command::command_named))]
+pub fn command_named(id: NameId) -> Command
     ensures { result ≡ command_named id.0 }
 {
-    if id.0 == RELAX as u64 {
+    if id.0 == INPUT as u64 {
+        Command::Input
+    } else if id.0 == CATCODE as u64 {
+        Command::Catcode
+    } else if id.0 == RELAX as u64 {
         Command::Relax
     } else if id.0 == PAR as u64 {
         Command::Par
     } else if id.0 == END as u64 {
         Command::End
-    } else if id.0 == CATCODE as u64 {
-        Command::Catcode
     } else if id.0 == MESSAGE as u64 {
         Command::Message
     } else {
@@ -63,16 +67,19 @@ fn command_named(id: NameId) -> Command
 pub fn is_undefined(id: NameId) -> bool
     ensures { result ≡ is_undefined id.0 }
 {
-    !(id.0 == RELAX as u64
-        || id.0 == PAR as u64
-        || id.0 == END as u64
-        || id.0 == CATCODE as u64
-        || id.0 == MESSAGE as u64)
+    matches!(command_named(id), Command::Undefined)
 }
 
 /// Whether a name is `\relax`.
 pub fn is_relax(id: NameId) -> bool
     ensures { result ≡ is_relax id.0 }
 {
-    id.0 == RELAX as u64
+    matches!(command_named(id), Command::Relax)
+}
+
+/// Whether a token is `\input`.
+pub fn is_input(token: Token) -> bool
+    ensures { result ≡ is_input token }
+{
+    matches!(command_of(token), Command::Input)
 }

@@ -1,20 +1,23 @@
 //! The machine: a whole run, from its first line to its last (`tex.web` 1332).
-ghost use Rattle.std.specs.Prelude.{◌≡◌, ◌<◌, ◌≤◌, true, IfOk, OnOk};
-ghost use Rattle.stomach.specs.Did.{Does, DoesBy, Ended};
-ghost use Rattle.stomach.specs.Outside.{Heard, HeardAll, IsQuiet, SameFiles, FaultsOnly, IsUnasked, UnlessMemory, IsCounted};
+ghost use Rattle.std.specs.Prelude.{◌≡◌, ◌<◌, ◌≤◌, ℕ, min, Bool, true, IfOk, OnOk};
+ghost use Rattle.asking.specs.Meaning.{Meant};
+ghost use Rattle.asking.specs.Seen.{DoesBeside, Seen};
+ghost use Rattle.stomach.specs.declared.state.State.{State};
 ghost use Rattle.stomach.specs.Turn.{turn};
-ghost use Rattle.stomach.specs.Work.{work, asks};
-ghost use Rattle.stomach.specs.Ending.{exit_by, output_by, exit_after, Whole, IsOutcome, outcome_of};
+ghost use Rattle.stomach.specs.Work.{work};
+ghost use Rattle.stomach.specs.Ending.{exit_by, output_by, exit_after, cut_short};
 ghost use Rattle.stomach.specs.Faults.{ReadFaultWhere, WriteFaultWhere};
-ghost use Rattle.stomach.specs.Machine.{begins_with_name, beginning, turns, TurnsLaw};
+ghost use Rattle.stomach.specs.Machine.{begins_with_name, beginning, new_run, RunsFrom, SameFiles, TurnsLaw, tells};
+ghost use Rattle.stomach.specs.Running.{DoesAll, Runs};
 
 use crate::ending::{Exit, exit_of};
 use crate::pending::Pending;
 use crate::source::Source;
 use crate::state::State;
+use asking::{Known, Library, Start as Told};
 use catcode_eye::Eye;
 use std::alloc::{AllocError, Global};
-use std::marker::Model;
+use std::marker::{Brand, Model};
 use tokens::{Budget, CatTable, Stop, Text, primitive_table};
 use world::{Printer, World, WorldError};
 
@@ -31,7 +34,7 @@ pub struct Start {
 #[derive(Clone, Copy, Debug, PartialEq, Eq)]
 pub struct Ended {
     pub exit: Exit,
-    /// How many steps it took.
+    /// How many steps it took, at most those that it was given.
     pub steps: u64,
     /// How many files it asked the world for, at most 2^64 - 1.
     pub fetches: u64,
@@ -42,75 +45,76 @@ pub struct Ended {
 pub struct Machine {
     alloc: Global,
     state: State,
+    steps: u64,
 }
 
 impl Model for Machine {
-    ghost use Rattle.stomach.specs.declared.state.State.{State};
+    ghost use Rattle.stomach.specs.Machine.{Run};
 
-    ghost Value = { State };
+    ghost Value = { Run };
 
-    ghost view = { λ machine. machine.state };
+    ghost view = { λ machine. record { state = machine.state; steps = machine.steps } };
 }
 
 impl Machine {
     /// The machine before its first turn.
     pub fn new(alloc: Global, start: Start) -> Result<Machine, AllocError>
-        ensures begins { IfOk result (λ machine. machine ≡ beginning start.line.items start.budget) }
+        ensures begins { IfOk result (λ machine. machine ≡ new_run start.line.items start.budget) }
     {
-        let state = beginning(alloc, start.line, start.budget)?;
-        Ok(Machine { alloc, state })
-    }
-
-    /// One turn. The answer is false exactly at the end of the run.
-    pub fn step<W: World>(&mut self, world: &mut W) -> Result<bool, Stop>
-        ensures heard { Heard (W.told world.old) (W.read_faults world.old) (W.read_faults world.new) self.old.fetches self.new.fetches
-            (λ outside. Does result self.new (turn outside self.old)) }
-        ensures less { IfOk result (λ more. more ≡ true → work self.new < work self.old) }
-        ensures quiet { IsQuiet (W.told world.old) (W.told world.new) }
-        ensures fetched { UnlessMemory result (IsCounted self.old.fetches self.new.fetches (W.told world.old) (W.told world.new)) }
-        ensures faults { FaultsOnly (W.told world.old) result (W.read_faults world.old) (W.read_faults world.new) }
-        ensures silent { W.write_faults world.new ≡ W.write_faults world.old }
-        ensures counts { self.old.fetches ≤ self.new.fetches }
-        ensures once { asks self.new ≤ asks self.old }
-        ensures unasked { IsUnasked self.old.fetches self.new.fetches (W.read_faults world.old) (W.read_faults world.new) }
-    {
-        self.state.turn(self.alloc, world)
+        let steps = start.budget;
+        let state = beginning(alloc, start.line, steps)?;
+        Ok(Machine {
+            alloc,
+            state,
+            steps,
+        })
     }
 
     /// All turns, and the ending.
-    pub fn run<W: World>(mut self, world: &mut W) -> Ended
-        ensures machine { HeardAll (W.told world.old) (W.read_faults world.old) (W.read_faults world.new) self.fetches result.fetches
-            (λ t outside. Whole result.exit (IsOutcome (outcome_of (turns outside self)) result t (W.told world.new))) }
-        ensures once { result.fetches ≤ asks self }
-        ensures fetched { Whole result.exit (IsCounted self.fetches result.fetches (W.told world.old) (W.told world.new)) }
-        ensures read_fault { ReadFaultWhere (W.told world.old) result.exit (W.read_faults world.old) (W.read_faults world.new)
-            (W.write_faults world.old) (W.write_faults world.new) }
-        ensures write_fault { WriteFaultWhere (W.told world.old) result.exit (W.write_faults world.old) (W.write_faults world.new) }
+    pub fn run<W: World>(self, world: &mut W) -> Ended
+        ensures runs { RunsFrom self.state self.steps result (W.told world.old) (W.told world.new) (W.read_faults world.old) (W.read_faults world.new) }
+        ensures steps { result.steps ≤ self.steps }
+        ensures read_fault { ReadFaultWhere (tells (W.told world.old)) result.exit (W.read_faults world.old) (W.read_faults world.new) }
+        ensures write_fault { WriteFaultWhere (tells (W.told world.old)) result.exit (W.write_faults world.old) (W.write_faults world.new) }
         ensures files { SameFiles (W.told world.old) (W.told world.new) }
     {
-        let ending = self.turns(world);
-        let concluded = self.conclude(&ending);
-        let shown = self.state.printer.flush(world);
+        self.run_from::<Brand, W>(world)
+    }
+
+    /// The same, by what the world told at the start.
+    fn run_from<F: Told, W: World>(mut self, world: &mut W) -> Ended
+        requires told { W.told world.old ≡ F.told }
+        ensures runs { RunsFrom self.state self.steps result (W.told world.old) (W.told world.new) (W.read_faults world.old) (W.read_faults world.new) }
+        ensures steps { result.steps ≤ self.steps }
+        ensures read_fault { ReadFaultWhere (tells (W.told world.old)) result.exit (W.read_faults world.old) (W.read_faults world.new) }
+        ensures write_fault { WriteFaultWhere (tells (W.told world.old)) result.exit (W.write_faults world.old) (W.write_faults world.new) }
+        ensures files { SameFiles (W.told world.old) (W.told world.new) }
+    {
+        let mut library = Known::<F, &mut W>::new(world);
+        let exit = self.state.finish(self.alloc, &mut library, self.steps);
         Ended {
-            exit: exit_after(concluded, shown),
-            steps: self.state.budget.used(),
-            fetches: self.state.fetches,
+            exit,
+            steps: self.state.budget.used().min(self.steps),
+            fetches: library.asked(),
         }
+    }
+}
+
+impl State {
+    /// All turns, and the ending, over a library.
+    fn finish<L: Library>(&mut self, alloc: Global, library: &mut L, given: u64) -> Exit
+        ensures runs { Runs L.outside (L.seen library.old) (L.seen library.new) result (min self.new.budget.used given) given (turn L.outside) self.old }
+    {
+        let ending = self.turns(alloc, library);
+        self.show_ending(alloc, library, &ending, given)
     }
 
     /// All turns. Each leaves less work to be done.
-    fn turns<W: World>(&mut self, world: &mut W) -> Result<(), Stop>
-        ensures heard { HeardAll (W.told world.old) (W.read_faults world.old) (W.read_faults world.new) self.old.fetches self.new.fetches
-            (λ t outside. Does result self.new (turns outside self.old)) }
-        ensures quiet { IsQuiet (W.told world.old) (W.told world.new) }
-        ensures fetched { UnlessMemory result (IsCounted self.old.fetches self.new.fetches (W.told world.old) (W.told world.new)) }
-        ensures faults { FaultsOnly (W.told world.old) result (W.read_faults world.old) (W.read_faults world.new) }
-        ensures silent { W.write_faults world.new ≡ W.write_faults world.old }
-        ensures counts { self.old.fetches ≤ self.new.fetches }
-        ensures once { asks self.new ≤ asks self.old }
+    fn turns<L: Library>(&mut self, alloc: Global, library: &mut L) -> Result<(), Stop>
+        ensures does { DoesAll L.outside (L.seen library.old) (L.seen library.new) result self.new (turn L.outside) self.old }
     {
         'turns: loop {
-            match self.step(world) {
+            match self.turn(alloc, library) {
                 Ok(true) => {}
                 Ok(false) => return Ok(()),
                 Err(stop) => return Err(stop),
@@ -118,42 +122,73 @@ impl Machine {
         }
     }
 
-    /// Shows the ending, and tells the exit. Where memory ran out, nothing more is shown.
-    fn conclude(&mut self, ending: &Result<(), Stop>) -> Result<Exit, AllocError>
+    /// Shows the ending of turns. Behind a refused write, and where memory ran out, nothing more is shown.
+    fn show_ending<L: Library>(
+        &mut self,
+        alloc: Global,
+        library: &mut L,
+        ending: &Result<(), Stop>,
+        given: u64,
+    ) -> Exit
+        ensures runs { (old : Seen) (once : State → Meant State Bool) (first : State) → DoesAll L.outside old (L.seen library.old) ending.now self.old once first
+            → Runs L.outside old (L.seen library.new) result (min self.new.budget.used given) given once first }
+    {
+        if let Some(exit) = cut_short(ending) {
+            return exit;
+        }
+        let Ok(exit) = self.conclude(alloc, ending) else {
+            return Exit::OutOfMemory;
+        };
+        exit_after(exit, library.show(&mut self.printer))
+    }
+
+    /// Prints the ending, and tells the exit.
+    fn conclude(&mut self, alloc: Global, ending: &Result<(), Stop>) -> Result<Exit, AllocError>
         ensures exit { IfOk result (λ exit. exit ≡ exit_by ending.now) }
         ensures output { OnOk result (self.new.printer ≡ output_by ending.now self.old) }
         ensures budget { self.new.budget ≡ self.old.budget }
-        ensures fetches { self.new.fetches ≡ self.old.fetches }
     {
         match ending {
             Ok(()) => {
-                self.state.end_well()?;
+                self.end_well()?;
                 Ok(Exit::Done)
             }
             Err(stop) => {
-                self.state.end_early(self.alloc, stop)?;
+                self.end_early(alloc, stop)?;
                 Ok(exit_of(stop))
             }
         }
     }
 }
 
-/// The exit of a run, by how it ended and whether its text was shown.
-fn exit_after(concluded: Result<Exit, AllocError>, shown: Result<(), WorldError>) -> Exit
-    ensures value { result ≡ exit_after concluded shown }
+/// The exit of turns behind which nothing more is shown.
+fn cut_short(ending: &Result<(), Stop>) -> Option<Exit>
+    ensures value { result ≡ cut_short ending.now }
+{
+    match ending {
+        Ok(()) => None,
+        Err(Stop::Trouble(_)) => None,
+        Err(Stop::Capacity(_)) => None,
+        Err(Stop::Spent) => None,
+        Err(Stop::ReadFault) => None,
+        Err(Stop::WriteFault) => Some(Exit::WriteFault),
+        Err(Stop::OutOfMemory) => Some(Exit::OutOfMemory),
+    }
+}
+
+/// The exit of a run, by how it ended and whether its ending was shown.
+fn exit_after(exit: Exit, shown: Result<(), WorldError>) -> Exit
+    ensures value { result ≡ exit_after exit shown }
 {
     match shown {
+        Ok(()) => exit,
         Err(WorldError::Failed) => Exit::WriteFault,
         Err(WorldError::OutOfMemory) => Exit::OutOfMemory,
-        Ok(()) => match concluded {
-            Ok(exit) => exit,
-            Err(_) => Exit::OutOfMemory,
-        },
     }
 }
 
 /// The state with which a run begins.
-#[tactic(auto, unfolding(crate::specs::Machine::beginning))]
+#[tactic(auto, using(asking::specs::Asked::asking), unfolding(crate::specs::Machine::beginning))]
 fn beginning(alloc: Global, line: Vec<u8>, budget: u64) -> Result<State, AllocError>
     ensures begins { IfOk result (λ state. state ≡ beginning line.items budget) }
 {
@@ -173,7 +208,6 @@ fn beginning(alloc: Global, line: Vec<u8>, budget: u64) -> Result<State, AllocEr
         names_file,
         job: Text::new(Vec::new(alloc)),
         asked: Text::new(Vec::new(alloc)),
-        fetches: 0,
     })
 }
 
@@ -187,7 +221,7 @@ fn begins_with_name(line: &[u8]) -> bool
     }
 }
 
-/// The law of a run: its turns are one turn, and the turns of what that leaves.
+/// The laws of turns: once the run is over, more turns mean the same, and show no more.
 pub fn turns_law()
     ensures law { TurnsLaw }
 {}

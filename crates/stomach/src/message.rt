@@ -1,37 +1,48 @@
-//! `\message` (The TeXbook, page 279; `tex.web` 1279 and 1280).
-ghost use Rattle.std.specs.Prelude.{◌≡◌, ◌+◌, ◌≤◌, OnOk, length};
-ghost use Rattle.stomach.specs.Did.{Does, DoesBy, Ended};
+//! `\message` (The TeXbook, page 279; `tex.web` 403, 473 to 479, 1279 and 1280).
+ghost use Rattle.std.specs.Prelude.{◌≡◌, ◌≤◌, ◌<◌, OnOk};
+ghost use Rattle.asking.specs.Did.{Does, DoesBy, Ended};
+ghost use Rattle.asking.specs.Seen.{DoesBeside, DoesBesideBy};
 ghost use Rattle.stomach.specs.Message.{
   brace_token,
   brace_turn,
   left_brace,
-  gathering,
-  gather_of,
-  text_token,
   text_turn,
   balanced_text,
+  shown_text,
   message,
 };
+ghost use Rattle.stomach.specs.Work.{work};
 
-use crate::command::{is_relax, is_undefined};
+use crate::command::{is_input, is_relax};
+use crate::gather::GatheredText;
 use crate::report;
 use crate::start_values::ESCAPE_CHARACTER;
 use crate::state::State;
+use asking::Library;
 use std::alloc::Global;
-use tokens::{Cap, Stop, Token, tokens_text};
+use tokens::{Stop, Token, tokens_text};
 
 impl State {
     /// Carries `\message` out, behind its token.
-    #[tactic(auto, unfolding(crate::specs::Message::message))]
-    pub fn message(&mut self, alloc: Global) -> Result<(), Stop>
-        ensures does { Does result self.new (message self.old) }
-        ensures asks_nothing { (self.new.fetches ≡ self.old.fetches) × (self.new.names_file ≡ self.old.names_file) }
+    #[tactic(auto, using(asking::specs::Asked::asking), unfolding(crate::specs::Message::message))]
+    pub fn message<L: Library>(&mut self, alloc: Global, library: &mut L) -> Result<(), Stop>
+        ensures does { DoesBeside L.outside (L.seen library.old) (L.seen library.new) result self.new (message L.outside self.old) }
+        ensures less { OnOk result (work self.new ≤ work self.old) }
     {
-        self.left_brace(alloc)?;
-        let tokens = self.balanced_text(alloc)?;
+        self.left_brace(alloc, library)?;
+        let text = self.balanced_text(alloc, library)?;
+        self.show_text(alloc, text.tokens())
+    }
+
+    /// Shows a text, with room in front of it.
+    #[tactic(auto, using(asking::specs::Asked::asking), unfolding(crate::specs::Message::shown_text))]
+    fn show_text(&mut self, alloc: Global, tokens: &[Token]) -> Result<(), Stop>
+        ensures does { Does result self.new (shown_text tokens.now self.old) }
+        ensures same { work self.new ≡ work self.old }
+    {
         let Ok(text) = tokens_text(
             alloc,
-            &tokens,
+            tokens,
             &self.names,
             &self.categories,
             ESCAPE_CHARACTER,
@@ -44,13 +55,13 @@ impl State {
         }
     }
 
-    /// Passes spaces and `\relax`, up to a left brace.
-    fn left_brace(&mut self, alloc: Global) -> Result<(), Stop>
-        ensures does { Does result self.new (left_brace self.old) }
-        ensures asks_nothing { (self.new.fetches ≡ self.old.fetches) × (self.new.names_file ≡ self.old.names_file) }
+    /// Passes spaces and `\relax`, up to a left brace. Files that `\input` names are opened.
+    fn left_brace<L: Library>(&mut self, alloc: Global, library: &mut L) -> Result<(), Stop>
+        ensures does { DoesBeside L.outside (L.seen library.old) (L.seen library.new) result self.new (left_brace L.outside self.old) }
+        ensures less { OnOk result (work self.new ≤ work self.old) }
     {
         'brace: loop {
-            match self.brace_turn(alloc) {
+            match self.brace_turn(alloc, library) {
                 Ok(true) => {}
                 Ok(false) => return Ok(()),
                 Err(stop) => return Err(stop),
@@ -59,17 +70,23 @@ impl State {
     }
 
     /// Takes a token in front of a text. The answer is whether a brace is still wanted.
-    fn brace_turn(&mut self, alloc: Global) -> Result<bool, Stop>
-        ensures does { Does result self.new (brace_turn self.old) }
-        ensures asks_nothing { (self.new.fetches ≡ self.old.fetches) × (self.new.names_file ≡ self.old.names_file) }
+    #[tactic(auto, using(asking::specs::Asked::asking), unfolding(crate::specs::Message::brace_turn))]
+    fn brace_turn<L: Library>(&mut self, alloc: Global, library: &mut L) -> Result<bool, Stop>
+        ensures does { DoesBesideBy (λ more. (more, tt)) L.outside (L.seen library.old) (L.seen library.new) result self.new
+            (brace_turn L.outside tt self.old) }
+        ensures less { OnOk result (work self.new < work self.old) }
     {
-        let token = self.operand_token(alloc)?;
+        let token = self.text_token()?;
+        if is_input(token) {
+            self.input(alloc, library)?;
+            return Ok(true);
+        }
         self.brace_token(alloc, token)
     }
 
     fn brace_token(&mut self, alloc: Global, token: Token) -> Result<bool, Stop>
-        ensures does { Does result self.new (brace_token (token, self.old)) }
-        ensures asks_nothing { (self.new.fetches ≡ self.old.fetches) × (self.new.names_file ≡ self.old.names_file) }
+        ensures does { DoesBy (λ more. (more, tt)) result self.new (brace_token (token, self.old)) }
+        ensures same { OnOk result (self.new ≡ self.old) }
     {
         match token {
             Token::Char { cat, byte: _ } => {
@@ -94,15 +111,19 @@ impl State {
         }
     }
 
-    /// Takes the tokens up to the right brace of the text.
-    fn balanced_text(&mut self, alloc: Global) -> Result<Vec<Token>, Stop>
-        ensures does { DoesBy (λ text. text.items) result self.new (balanced_text self.old) }
-        ensures asks_nothing { (self.new.fetches ≡ self.old.fetches) × (self.new.names_file ≡ self.old.names_file) }
+    /// Takes the tokens up to the right brace of the text. Files that `\input` names are opened.
+    fn balanced_text<L: Library>(
+        &mut self,
+        alloc: Global,
+        library: &mut L,
+    ) -> Result<GatheredText, Stop>
+        ensures does { DoesBeside L.outside (L.seen library.old) (L.seen library.new) result self.new
+            (balanced_text L.outside self.old) }
+        ensures less { OnOk result (work self.new ≤ work self.old) }
     {
-        let mut text = Vec::new(alloc);
-        let mut braces = 0usize;
+        let mut text = GatheredText::new(alloc);
         'text: loop {
-            match self.text_turn(alloc, &mut text, &mut braces) {
+            match self.text_turn(alloc, library, &mut text) {
                 Ok(true) => {}
                 Ok(false) => return Ok(text),
                 Err(stop) => return Err(stop),
@@ -111,82 +132,22 @@ impl State {
     }
 
     /// Takes a token of a text. The answer is whether the text goes on.
-    fn text_turn(
+    #[tactic(auto, using(asking::specs::Asked::asking), unfolding(crate::specs::Message::text_turn))]
+    fn text_turn<L: Library>(
         &mut self,
         alloc: Global,
-        text: &mut Vec<Token>,
-        braces: &mut usize,
+        library: &mut L,
+        text: &mut GatheredText,
     ) -> Result<bool, Stop>
-        requires { braces.old ≤ length text.old.items }
-        ensures does { Does result (gathering text.new.items braces.new self.new)
-            (text_turn (gathering text.old.items braces.old self.old)) }
-        ensures few { braces.new ≤ length text.new.items }
-        ensures asks_nothing { (self.new.fetches ≡ self.old.fetches) × (self.new.names_file ≡ self.old.names_file) }
+        ensures does { DoesBesideBy (λ more. (more, text.new)) L.outside (L.seen library.old) (L.seen library.new) result self.new
+            (text_turn L.outside text.old self.old) }
+        ensures less { OnOk result (work self.new < work self.old) }
     {
-        match self.operand_token(alloc) {
-            Ok(token) => self.text_token(alloc, text, braces, token),
-            Err(stop) => Err(stop),
+        let token = self.text_token()?;
+        if is_input(token) {
+            self.input(alloc, library)?;
+            return Ok(true);
         }
-    }
-
-    /// Puts a token into a text: braces are counted, and the right brace without a partner ends it.
-    fn text_token(
-        &mut self,
-        alloc: Global,
-        text: &mut Vec<Token>,
-        braces: &mut usize,
-        token: Token,
-    ) -> Result<bool, Stop>
-        requires { braces.old ≤ length text.old.items }
-        ensures does { Does result (gathering text.new.items braces.new self.new)
-            (text_token (token, gathering text.old.items braces.old self.old)) }
-        ensures few { braces.new ≤ length text.new.items }
-        ensures asks_nothing { (self.new.fetches ≡ self.old.fetches) × (self.new.names_file ≡ self.old.names_file) }
-    {
-        match token {
-            Token::Char { cat, byte: _ } => {
-                if cat == 1 {
-                    gather(text, token)?;
-                    *braces += 1;
-                } else if cat == 2 {
-                    if *braces == 0 {
-                        return Ok(false);
-                    }
-                    gather(text, token)?;
-                    *braces -= 1;
-                } else {
-                    gather(text, token)?;
-                }
-                Ok(true)
-            }
-            Token::Active(_) => self.undefined(alloc, token),
-            Token::Name(id) => {
-                if is_undefined(id) {
-                    return self.undefined(alloc, token);
-                }
-                gather(text, token)?;
-                Ok(true)
-            }
-            Token::Arg(_) | Token::Frozen(_) => {
-                gather(text, token)?;
-                Ok(true)
-            }
-        }
-    }
-}
-
-/// Adds a token to a list, where it has room.
-fn gather(text: &mut Vec<Token>, token: Token) -> Result<(), Stop>
-    ensures does { Does result text.new.items (gather_of token text.old.items) }
-    ensures longer { length text.old.items ≤ length text.new.items }
-    ensures room { OnOk result (length text.old.items + 1 ≡ length text.new.items) }
-    ensures bound { OnOk result (length text.new.items ≤ 16777215) }
-{
-    if text.len() >= Cap::Items.limit() as usize {
-        return Err(Stop::Capacity(Cap::Items));
-    }
-    match text.push(token) {
-        Ok(()) => Ok(()),
-        Err(_) => Err(Stop::OutOfMemory),
+        self.gather_token(alloc, text, token)
     }
 }

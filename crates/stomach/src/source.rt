@@ -1,8 +1,8 @@
 //! A source of lines, and the tokens that come of it (The TeXbook, chapter 8).
-ghost use Rattle.std.specs.Prelude.{◌≡◌, IfOk, OnErr};
+ghost use Rattle.std.specs.Prelude.{◌≡◌, ◌≤◌, ◌+◌, IfOk, OnOk};
 ghost use Rattle.catcode_eye.specs.Outlook.{Outlook};
-ghost use Rattle.stomach.specs.Did.{Does, DoesBy, Ended};
-ghost use Rattle.stomach.specs.Take.{looking, glanced, named, token_from, first_line, line_behind_word, EndsUnpaid};
+ghost use Rattle.asking.specs.Did.{Does, DoesBy, Ended};
+ghost use Rattle.stomach.specs.Take.{looking, glanced, named, token_from, first_line, line_behind_word, EndsUnpaid, token_cost};
 
 use catcode_eye::{Eye, Glance};
 use tokens::{Budget, CatTable, Kind, NameTable, Stop, Token};
@@ -27,6 +27,7 @@ pub fn token_from(
 ) -> Result<Option<Token>, Stop>
     ensures does { Does result (looking eye.new names.new budget.new)
         (token_from categories.now end_line (looking eye.old names.old budget.old)) }
+    ensures less { IfOk result (λ token. budget.new.left + token_cost token ≤ budget.old.left) }
 {
     'lines: loop {
         let glance = eye.glance(categories, word);
@@ -55,6 +56,7 @@ fn token_of(
 ) -> Result<Option<Token>, Stop>
     ensures does { (eye : Outlook) → Does result (looking eye names.new budget.new)
         (glanced glance word.now (looking eye names.old budget.old)) }
+    ensures less { IfOk result (λ token. budget.new.left + token_cost token ≤ budget.old.left) }
 {
     match glance {
         Glance::LineEnd => return Ok(None),
@@ -83,6 +85,7 @@ pub fn first_line(
 ) -> Result<(), Stop>
     ensures does { Does result (looking eye.new names.now budget.new)
         (first_line end_line (looking eye.old names.now budget.old)) }
+    ensures less { OnOk result (budget.new.left ≤ budget.old.left) }
 {
     match eye.next_line(end_line) {
         Ok(true) => {
@@ -106,6 +109,7 @@ pub fn line_behind_word(
 ) -> Result<(), Stop>
     ensures does { Does result (looking eye.new names.now budget.new)
         (line_behind_word end_line (looking eye.old names.now budget.old)) }
+    ensures less { OnOk result (budget.new.left ≤ budget.old.left) }
 {
     match eye.next_line(end_line) {
         Ok(true) => {

@@ -19,6 +19,4 @@ pub struct State {
     pub job: Text,
     /// The file that was asked for last.
     pub asked: Text,
-    /// How many files the world was asked for.
-    pub fetches: u64,
 }

@@ -1,83 +1,89 @@
 //! One turn of a run: the next token is taken, and what it does is done (The TeXbook, chapter 24;
 //! `tex.web` 1030 and 1045).
-ghost use Rattle.std.specs.Prelude.{◌≡◌, ◌<◌, ◌≤◌, true, IfOk};
+ghost use Rattle.std.specs.Prelude.{◌≡◌, ◌<◌, ◌≤◌, ◌+◌, true, IfOk, OnOk};
+ghost use Rattle.asking.specs.Did.{Does, DoesBy, Ended};
+ghost use Rattle.asking.specs.Seen.{DoesBeside, DoesBesideBy};
 ghost use Rattle.stomach.specs.Command.{command_of};
-ghost use Rattle.stomach.specs.Did.{Does, DoesBy, Ended};
+ghost use Rattle.stomach.specs.Pending.{worth};
 ghost use Rattle.stomach.specs.Turn.{turn, plain_turn, by_event, executed};
-ghost use Rattle.stomach.specs.Outside.{Heard, IsQuiet, FaultsOnly, IsUnasked, UnlessMemory, IsCounted};
-ghost use Rattle.stomach.specs.Work.{work, asks};
+ghost use Rattle.stomach.specs.Work.{work};
 
 use crate::command::{Command, command_of};
 use crate::pending::Event;
 use crate::state::State;
+use asking::Library;
 use std::alloc::Global;
-use tokens::{Kind, Stop, Token};
-use world::World;
+use tokens::{Stop, Token};
 
 impl State {
     /// One turn. The answer is whether the run goes on.
-    pub fn turn<W: World>(&mut self, alloc: Global, world: &mut W) -> Result<bool, Stop>
-        ensures heard { Heard (W.told world.old) (W.read_faults world.old) (W.read_faults world.new) self.old.fetches self.new.fetches
-            (λ outside. Does result self.new (turn outside self.old)) }
-        ensures less { IfOk result (λ more. more ≡ true → work self.new < work self.old) }
-        ensures quiet { IsQuiet (W.told world.old) (W.told world.new) }
-        ensures fetched { UnlessMemory result (IsCounted self.old.fetches self.new.fetches (W.told world.old) (W.told world.new)) }
-        ensures faults { FaultsOnly (W.told world.old) result (W.read_faults world.old) (W.read_faults world.new) }
-        ensures silent { W.write_faults world.new ≡ W.write_faults world.old }
-        ensures counts { self.old.fetches ≤ self.new.fetches }
-        ensures once { asks self.new ≤ asks self.old }
-        ensures unasked { IsUnasked self.old.fetches self.new.fetches (W.read_faults world.old) (W.read_faults world.new) }
+    #[tactic(auto, using(asking::specs::Asked::asking), unfolding(crate::specs::Turn::turn))]
+    pub fn turn<L: Library>(&mut self, alloc: Global, library: &mut L) -> Result<bool, Stop>
+        ensures does { DoesBeside L.outside (L.seen library.old) (L.seen library.new) result self.new (turn L.outside self.old) }
+        ensures less { OnOk result (work self.new < work self.old) }
     {
         if self.names_file {
-            match self.input(alloc, world) {
-                Ok(()) => Ok(true),
-                Err(stop) => Err(stop),
-            }
+            self.first_input(alloc, library)?;
+            Ok(true)
         } else {
-            self.plain_turn(alloc)
+            self.plain_turn(alloc, library)
         }
     }
 
     /// A turn that takes what comes next.
-    #[tactic(auto, unfolding(crate::specs::Turn::plain_turn))]
-    fn plain_turn(&mut self, alloc: Global) -> Result<bool, Stop>
-        ensures does { Does result self.new (plain_turn self.old) }
-        ensures asks_nothing { (self.new.fetches ≡ self.old.fetches) × (self.new.names_file ≡ self.old.names_file) }
+    #[tactic(auto, using(asking::specs::Asked::asking), unfolding(crate::specs::Turn::plain_turn))]
+    fn plain_turn<L: Library>(&mut self, alloc: Global, library: &mut L) -> Result<bool, Stop>
+        ensures does { DoesBeside L.outside (L.seen library.old) (L.seen library.new) result self.new (plain_turn L.outside self.old) }
+        ensures less { OnOk result (work self.new < work self.old) }
     {
-        match self.take() {
-            Ok(event) => self.by_event(alloc, event),
-            Err(stop) => Err(stop),
-        }
+        let event = self.take()?;
+        self.by_event(alloc, library, event)
     }
 
-    fn by_event(&mut self, alloc: Global, event: Event) -> Result<bool, Stop>
-        ensures does { Does result self.new (by_event (event, self.old)) }
-        ensures asks_nothing { (self.new.fetches ≡ self.old.fetches) × (self.new.names_file ≡ self.old.names_file) }
+    fn by_event<L: Library>(
+        &mut self,
+        alloc: Global,
+        library: &mut L,
+        event: Event,
+    ) -> Result<bool, Stop>
+        ensures does { DoesBeside L.outside (L.seen library.old) (L.seen library.new) result self.new
+            (by_event L.outside (event, self.old)) }
+        ensures less { OnOk result (work self.new < work self.old + worth event) }
     {
         match event {
-            Event::Token(token) => self.execute(alloc, token, command_of(token)),
-            Event::SourceEnd { is_file } => match self.show_source_over(is_file) {
+            Event::Token(token) => self.execute(alloc, library, token, command_of(token)),
+            Event::FileEnd => match self.pass_file() {
                 Ok(()) => Ok(true),
                 Err(_) => Err(Stop::OutOfMemory),
             },
-            Event::Empty => Err(Stop::Trouble(Kind::NoEnd)),
         }
     }
 
     /// Carries out a command. The answer is whether the run goes on.
-    fn execute(&mut self, alloc: Global, token: Token, command: Command) -> Result<bool, Stop>
-        ensures does { Does result self.new (executed token self.old command) }
-        ensures asks_nothing { (self.new.fetches ≡ self.old.fetches) × (self.new.names_file ≡ self.old.names_file) }
+    fn execute<L: Library>(
+        &mut self,
+        alloc: Global,
+        library: &mut L,
+        token: Token,
+        command: Command,
+    ) -> Result<bool, Stop>
+        ensures does { DoesBeside L.outside (L.seen library.old) (L.seen library.new) result self.new
+            (executed L.outside token self.old command) }
+        ensures less { OnOk result (work self.new < work self.old + 3) }
     {
         match command {
             Command::Space | Command::Relax | Command::Par => Ok(true),
             Command::End => Ok(false),
             Command::Catcode => {
-                self.catcode(alloc)?;
+                self.catcode(alloc, library)?;
                 Ok(true)
             }
             Command::Message => {
-                self.message(alloc)?;
+                self.message(alloc, library)?;
+                Ok(true)
+            }
+            Command::Input => {
+                self.input(alloc, library)?;
                 Ok(true)
             }
             Command::Undefined => self.undefined(alloc, token),

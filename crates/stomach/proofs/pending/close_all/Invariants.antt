@@ -1,6 +1,6 @@
 use Rattle.std.proofs.Common.{◌≡◌, ◌≤◌, length, take}
 use Rattle.std.specs.Prelude.{reverse}
-use Rattle.stomach.specs.Ending.{files_closed}
+use Rattle.stomach.specs.Pending.{files_closed}
 use Rattle.stomach.proofs.pending.close_all.Given as goal
 
 abbrev pub invariant-files : goal.invariant-files

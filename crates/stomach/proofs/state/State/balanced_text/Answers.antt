@@ -1,47 +1,37 @@
-use Rattle.std.proofs.Common.{◌≡◌, ◌∙◌, sym, ap, [], List}
-use Rattle.tokens.specs.declared.token.Token.{Token}
-use Rattle.stomach.specs.Again.{again, again-more, again-enough, again-ended}
-use Rattle.stomach.specs.Did.{Ended-by, lowered}
-use Rattle.stomach.specs.Message.{gathering, gathering_work, text_turn, balanced_text, balanced_text-is}
-use Rattle.stomach.proofs.MessageFalls.{text_turn-falls}
+use Rattle.std.proofs.Common.{Bool, [], sym, subst}
+use Rattle.stomach.specs.Gather.{Gathered, gathered}
+use Rattle.asking.specs.Leads.{Leads, leads_start, leads_more, leads_enough, leads_end}
+use Rattle.stomach.specs.Again.{end_seen}
+use Rattle.stomach.specs.Message.{text_turn, balanced_text}
+use Rattle.stomach.specs.Work.{work}
 use Rattle.stomach.proofs.state.State.balanced_text.Goals as goal
 
-pub text-smaller : goal.text-smaller
-text-smaller c =
-    text_turn-falls (gathering c.text.text.items c.text.braces c.text.self) (gathering c.text_turn.new.text.items c.text_turn.new.braces c.text_turn.new.self)
-    (rw c.in-Ok-true.field-0-test at c.in-Ok-true.ensures.does)
+pub text-init : goal.text-init
+text-init g c =
+    let P : Gathered → Type 0 = λ text.
+    Leads g.L.Library.outside work (text_turn g.L.Library.outside) (g.L.Library.seen c.args.library.now) (g.L.Library.seen c.args.library.now)
+    (gathered [] 0) c.args.self.now text c.args.self.now in
+    subst P (sym c.new-text.ensures)
+    (leads_start g.L.Library.outside work (text_turn g.L.Library.outside) (g.L.Library.seen c.args.library.now) (gathered [] 0) c.args.self.now)
 
 pub text-preserved : goal.text-preserved
-text-preserved c = record {
-  same = sym (again-more gathering_work text_turn text_turn-falls (gathering c.text.text.items c.text.braces c.text.self)
-      (gathering c.text_turn.new.text.items c.text_turn.new.braces c.text_turn.new.self)
-      (rw c.in-Ok-true.field-0-test at c.in-Ok-true.ensures.does)) ∙ c.text.invariant.same;
-  few = c.in-Ok-true.ensures.few;
-  asks_nothing = (c.in-Ok-true.ensures.asks_nothing.0 ∙ c.text.invariant.asks_nothing.0, c.in-Ok-true.ensures.asks_nothing.1 ∙ c.text.invariant.asks_nothing.1);
-}
+text-preserved g c =
+    leads_more g.L.Library.outside work (text_turn g.L.Library.outside) (g.L.Library.seen c.args.library.now) (gathered [] 0) c.args.self.now
+    (g.L.Library.seen c.text.library) (g.L.Library.seen c.text_turn.new.library) c.text.text c.text_turn.new.text c.text.self c.text_turn.new.self
+    c.text.invariant (rw c.in-Ok-true.field-0-test at c.in-Ok-true.ensures.does)
+    c.in-Ok-true.ensures.less
 
-pub returns-in-Ok-false : goal.returns-in-Ok-false
-returns-in-Ok-false c = record {
-  does =
-      let begun : again gathering_work text_turn (gathering c.text.text.items c.text.braces c.text.self) ≡ again gathering_work text_turn (gathering [] 0 c.args.self.now) =
-      c.text.invariant.same ∙ ap (λ (xs : List Token). again gathering_work text_turn (gathering xs 0 c.args.self.now)) c.new-text.ensures.items in
-      balanced_text-is c.args.self.now
-      ∙ ap (lowered (λ g. g.text) (λ g. g.state))
-      (sym begun ∙ again-enough gathering_work text_turn text_turn-falls (gathering c.text.text.items c.text.braces c.text.self)
-      (gathering c.text_turn.new.text.items c.text_turn.new.braces c.text_turn.new.self)
-      (rw c.in-Ok-false.field-0-test at c.in-Ok-false.ensures.does));
-  asks_nothing = (c.in-Ok-false.ensures.asks_nothing.0 ∙ c.text.invariant.asks_nothing.0, c.in-Ok-false.ensures.asks_nothing.1 ∙ c.text.invariant.asks_nothing.1);
-}
+pub returns-in-Ok-false-clause-does : goal.returns-in-Ok-false-clause-does
+unfolding balanced_text
+returns-in-Ok-false-clause-does g c =
+    leads_enough g.L.Library.outside work (text_turn g.L.Library.outside) (g.L.Library.seen c.args.library.now) (gathered [] 0) c.args.self.now
+    (g.L.Library.seen c.text.library) (g.L.Library.seen c.text_turn.new.library) c.text.text c.text_turn.new.text c.text.self c.text_turn.new.self
+    c.text.invariant (rw c.in-Ok-false.field-0-test at c.in-Ok-false.ensures.does)
 
-pub returns-in-Err : goal.returns-in-Err
-returns-in-Err c = record {
-  does =
-      let begun : again gathering_work text_turn (gathering c.text.text.items c.text.braces c.text.self) ≡ again gathering_work text_turn (gathering [] 0 c.args.self.now) =
-      c.text.invariant.same ∙ ap (λ (xs : List Token). again gathering_work text_turn (gathering xs 0 c.args.self.now)) c.new-text.ensures.items in
-      Ended-by c.in-Err.stop (gathering c.text_turn.new.text.items c.text_turn.new.braces c.text_turn.new.self) c.text_turn.new.self
-      (again gathering_work text_turn (gathering c.text.text.items c.text.braces c.text.self)) (balanced_text c.args.self.now)
-      (λ e. balanced_text-is c.args.self.now ∙ ap (lowered (λ g. g.text) (λ g. g.state)) (sym begun ∙ e))
-      (again-ended gathering_work text_turn text_turn-falls c.in-Err.stop (gathering c.text.text.items c.text.braces c.text.self)
-      (gathering c.text_turn.new.text.items c.text_turn.new.braces c.text_turn.new.self) c.in-Err.ensures.does);
-  asks_nothing = (c.in-Err.ensures.asks_nothing.0 ∙ c.text.invariant.asks_nothing.0, c.in-Err.ensures.asks_nothing.1 ∙ c.text.invariant.asks_nothing.1);
-}
+pub returns-in-Err-clause-does : goal.returns-in-Err-clause-does
+unfolding balanced_text
+returns-in-Err-clause-does g c =
+    leads_end g.L.Library.outside work (text_turn g.L.Library.outside) (g.L.Library.seen c.args.library.now) (gathered [] 0) c.args.self.now
+    (g.L.Library.seen c.text.library) (g.L.Library.seen c.text_turn.new.library) c.text.text c.text.self c.text_turn.new.self c.in-Err.stop
+    c.text.invariant
+    (end_seen (λ (more : Bool). (more, c.text_turn.new.text)) (λ v. v) g.L.Library.outside (g.L.Library.seen c.text.library) (g.L.Library.seen c.text_turn.new.library) c.in-Err.stop c.text_turn.new.self _ c.in-Err.ensures.does)

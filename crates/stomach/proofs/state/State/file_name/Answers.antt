@@ -1,42 +1,27 @@
-use Rattle.std.proofs.Common.{◌≡◌, ◌∙◌, sym, ap, ℕ, List, [], Ok}
-use Rattle.stomach.specs.Again.{again, again-more, again-enough, again-ended}
-use Rattle.stomach.specs.Did.{Ended-by, lowered}
-use Rattle.stomach.specs.Name.{naming, naming_work, name_turn, file_name, file_name-is}
-use Rattle.stomach.proofs.NameFalls.{name_turn-falls}
+use Rattle.std.proofs.Common.{ℕ, List, [], Ok, ap, sym, subst, arith, ◌∙◌}
+use Rattle.stomach.specs.Again.{Leads, leads-start, leads-more, leads-enough, leads-end}
+use Rattle.stomach.specs.Name.{name_turn, file_name}
+use Rattle.stomach.specs.Work.{work}
 use Rattle.stomach.proofs.state.State.file_name.Goals as goal
 
-pub name-smaller : goal.name-smaller
-name-smaller c =
-    name_turn-falls (naming c.name.name.items c.name.self) (naming c.name_turn.new.name.items c.name_turn.new.self)
-    (rw c.in-Ok-true.field-0-test at c.in-Ok-true.ensures.does)
+pub name-init : goal.name-init
+name-init c =
+    let P : List ℕ → Type 0 = λ name. Leads work name_turn [] c.args.self.now name c.args.self.now in
+    subst P (sym c.new-name.ensures.items) (leads-start work name_turn [] c.args.self.now)
 
 pub name-preserved : goal.name-preserved
-name-preserved c = record {
-  same = sym (again-more naming_work name_turn name_turn-falls (naming c.name.name.items c.name.self) (naming c.name_turn.new.name.items c.name_turn.new.self)
-      (rw c.in-Ok-true.field-0-test at c.in-Ok-true.ensures.does)) ∙ c.name.invariant.same;
-  asks_nothing = (c.in-Ok-true.ensures.asks_nothing.0 ∙ c.name.invariant.asks_nothing.0, c.in-Ok-true.ensures.asks_nothing.1 ∙ c.name.invariant.asks_nothing.1);
-}
+name-preserved c =
+    leads-more work name_turn [] c.args.self.now c.name.name.items c.name_turn.new.name.items c.name.self c.name_turn.new.self c.name.invariant
+    (rw c.in-Ok-true.field-0-test at c.in-Ok-true.ensures.does) (let less = rw c.in-Ok-true.field-0-test at c.in-Ok-true.ensures.less in omega (arith, less))
 
-pub returns-in-Ok-false : goal.returns-in-Ok-false
-returns-in-Ok-false c = record {
-  does =
-      let begun : again naming_work name_turn (naming c.name.name.items c.name.self) ≡ again naming_work name_turn (naming [] c.args.self.now) =
-      c.name.invariant.same ∙ ap (λ xs. again naming_work name_turn (naming xs c.args.self.now)) c.new-name.ensures.items in
-      file_name-is c.args.self.now
-      ∙ ap (lowered (λ n. n.name) (λ n. n.state))
-      (sym begun ∙ again-enough naming_work name_turn name_turn-falls (naming c.name.name.items c.name.self) (naming c.name_turn.new.name.items c.name_turn.new.self)
-      (rw c.in-Ok-false.field-0-test at c.in-Ok-false.ensures.does))
-      ∙ ap (λ (name : List ℕ). Ok (name, c.name_turn.new.self)) (sym c.new.ensures);
-  asks_nothing = (c.in-Ok-false.ensures.asks_nothing.0 ∙ c.name.invariant.asks_nothing.0, c.in-Ok-false.ensures.asks_nothing.1 ∙ c.name.invariant.asks_nothing.1);
-}
+pub returns-in-Ok-false-clause-does : goal.returns-in-Ok-false-clause-does
+unfolding file_name
+returns-in-Ok-false-clause-does c =
+    leads-enough work name_turn [] c.args.self.now c.name.name.items c.name_turn.new.name.items c.name.self c.name_turn.new.self c.name.invariant
+    (rw c.in-Ok-false.field-0-test at c.in-Ok-false.ensures.does)
+    ∙ ap (λ (name : List ℕ). Ok (name, c.name_turn.new.self)) (sym c.new.ensures)
 
-pub returns-in-Err : goal.returns-in-Err
-returns-in-Err c = record {
-  does =
-      let begun : again naming_work name_turn (naming c.name.name.items c.name.self) ≡ again naming_work name_turn (naming [] c.args.self.now) =
-      c.name.invariant.same ∙ ap (λ xs. again naming_work name_turn (naming xs c.args.self.now)) c.new-name.ensures.items in
-      Ended-by c.in-Err.stop (naming c.name_turn.new.name.items c.name_turn.new.self) c.name_turn.new.self (again naming_work name_turn (naming c.name.name.items c.name.self)) (file_name c.args.self.now)
-      (λ e. file_name-is c.args.self.now ∙ ap (lowered (λ n. n.name) (λ n. n.state)) (sym begun ∙ e))
-      (again-ended naming_work name_turn name_turn-falls c.in-Err.stop (naming c.name.name.items c.name.self) (naming c.name_turn.new.name.items c.name_turn.new.self) c.in-Err.ensures.does);
-  asks_nothing = (c.in-Err.ensures.asks_nothing.0 ∙ c.name.invariant.asks_nothing.0, c.in-Err.ensures.asks_nothing.1 ∙ c.name.invariant.asks_nothing.1);
-}
+pub returns-in-Err-clause-does : goal.returns-in-Err-clause-does
+unfolding file_name
+returns-in-Err-clause-does c =
+    leads-end work name_turn [] c.args.self.now c.name.name.items c.name.self c.name_turn.new.self c.in-Err.stop c.name.invariant c.in-Err.ensures.does

@@ -1,34 +1,32 @@
-use Rattle.std.proofs.Common.{◌∙◌, sym}
-use Rattle.stomach.specs.Again.{again, again-more, again-enough, again-ended}
-use Rattle.stomach.specs.Did.{Ended-by}
-use Rattle.stomach.specs.Message.{brace_turn, left_brace, left_brace-is}
+use Rattle.std.proofs.Common.{Bool}
+use Rattle.asking.specs.Leads.{leads_start, leads_more, leads_enough, leads_end}
+use Rattle.stomach.specs.Again.{end_seen}
+use Rattle.stomach.specs.Message.{brace_turn, left_brace}
 use Rattle.stomach.specs.Work.{work}
-use Rattle.stomach.proofs.MessageFalls.{brace_turn-falls}
 use Rattle.stomach.proofs.state.State.left_brace.Goals as goal
 
-pub brace-smaller : goal.brace-smaller
-brace-smaller c = brace_turn-falls c.brace.self c.brace_turn.new.self (rw c.in-Ok-true.field-0-test at c.in-Ok-true.ensures.does)
+pub brace-init : goal.brace-init
+brace-init g c =
+    leads_start g.L.Library.outside work (brace_turn g.L.Library.outside) (g.L.Library.seen c.args.library.now) tt c.args.self.now
 
 pub brace-preserved : goal.brace-preserved
-brace-preserved c = record {
-  same = sym (again-more work brace_turn brace_turn-falls c.brace.self c.brace_turn.new.self
-      (rw c.in-Ok-true.field-0-test at c.in-Ok-true.ensures.does)) ∙ c.brace.invariant.same;
-  asks_nothing = (c.in-Ok-true.ensures.asks_nothing.0 ∙ c.brace.invariant.asks_nothing.0, c.in-Ok-true.ensures.asks_nothing.1 ∙ c.brace.invariant.asks_nothing.1);
-}
+brace-preserved g c =
+    leads_more g.L.Library.outside work (brace_turn g.L.Library.outside) (g.L.Library.seen c.args.library.now) tt c.args.self.now
+    (g.L.Library.seen c.brace.library) (g.L.Library.seen c.brace_turn.new.library) tt tt c.brace.self c.brace_turn.new.self
+    c.brace.invariant (rw c.in-Ok-true.field-0-test at c.in-Ok-true.ensures.does)
+    c.in-Ok-true.ensures.less
 
-pub returns-in-Ok-false : goal.returns-in-Ok-false
-returns-in-Ok-false c = record {
-  does =
-      left_brace-is c.args.self.now ∙ sym c.brace.invariant.same
-      ∙ again-enough work brace_turn brace_turn-falls c.brace.self c.brace_turn.new.self (rw c.in-Ok-false.field-0-test at c.in-Ok-false.ensures.does);
-  asks_nothing = (c.in-Ok-false.ensures.asks_nothing.0 ∙ c.brace.invariant.asks_nothing.0, c.in-Ok-false.ensures.asks_nothing.1 ∙ c.brace.invariant.asks_nothing.1);
-}
+pub returns-in-Ok-false-clause-does : goal.returns-in-Ok-false-clause-does
+unfolding left_brace
+returns-in-Ok-false-clause-does g c =
+    leads_enough g.L.Library.outside work (brace_turn g.L.Library.outside) (g.L.Library.seen c.args.library.now) tt c.args.self.now
+    (g.L.Library.seen c.brace.library) (g.L.Library.seen c.brace_turn.new.library) tt tt c.brace.self c.brace_turn.new.self
+    c.brace.invariant (rw c.in-Ok-false.field-0-test at c.in-Ok-false.ensures.does)
 
-pub returns-in-Err : goal.returns-in-Err
-returns-in-Err c = record {
-  does =
-      Ended-by c.in-Err.stop c.brace_turn.new.self c.brace_turn.new.self (again work brace_turn c.brace.self) (left_brace c.args.self.now)
-      (λ e. left_brace-is c.args.self.now ∙ sym c.brace.invariant.same ∙ e)
-      (again-ended work brace_turn brace_turn-falls c.in-Err.stop c.brace.self c.brace_turn.new.self c.in-Err.ensures.does);
-  asks_nothing = (c.in-Err.ensures.asks_nothing.0 ∙ c.brace.invariant.asks_nothing.0, c.in-Err.ensures.asks_nothing.1 ∙ c.brace.invariant.asks_nothing.1);
-}
+pub returns-in-Err-clause-does : goal.returns-in-Err-clause-does
+unfolding left_brace
+returns-in-Err-clause-does g c =
+    leads_end g.L.Library.outside work (brace_turn g.L.Library.outside) (g.L.Library.seen c.args.library.now) tt c.args.self.now
+    (g.L.Library.seen c.brace.library) (g.L.Library.seen c.brace_turn.new.library) tt c.brace.self c.brace_turn.new.self c.in-Err.stop
+    c.brace.invariant
+    (end_seen (λ (more : Bool). (more, tt)) (λ v. v) g.L.Library.outside (g.L.Library.seen c.brace.library) (g.L.Library.seen c.brace_turn.new.library) c.in-Err.stop c.brace_turn.new.self _ c.in-Err.ensures.does)

@@ -1,14 +1,12 @@
-use Rattle.std.proofs.Common.{◌≡◌}
-use Rattle.stomach.specs.Again.{again}
+use Rattle.asking.specs.Leads.{Leads}
 use Rattle.stomach.specs.Message.{brace_turn}
 use Rattle.stomach.specs.Work.{work}
 use Rattle.stomach.proofs.state.State.left_brace.Given as goal
 
 abbrev pub invariant-brace : goal.invariant-brace
-invariant-brace l = record {
-  same : again work brace_turn l.self ≡ again work brace_turn l.initial.self;
-  asks_nothing : (l.self.fetches ≡ l.initial.self.fetches) × (l.self.names_file ≡ l.initial.self.names_file);
-}
+invariant-brace g l =
+    Leads g.L.Library.outside work (brace_turn g.L.Library.outside) (g.L.Library.seen l.initial.library) (g.L.Library.seen l.library)
+    tt l.initial.self tt l.self
 
 abbrev pub decreases-brace : goal.decreases-brace
-decreases-brace l = work l.self
+decreases-brace g l = work l.self
