@@ -1,5 +1,6 @@
 -- What a token does when it is executed (The TeXbook, chapter 24; tex.web 1045).
 use Rattle.std.specs.Prelude.{ℕ, Bool, true, false, ◌==◌, if◌then◌else◌}
+use Rattle.tokens.specs.Codes.{input_code, catcode_code, relax_code, par_code, end_code, message_code}
 use Rattle.tokens.specs.declared.token.Token.{Token}
 use Rattle.tokens.specs.declared.token.Token.TheVariants.{Char, Active, Name, Arg, Frozen}
 use Rattle.stomach.specs.declared.command.Command.{Command}
@@ -9,12 +10,12 @@ use Rattle.stomach.specs.declared.command.Command.TheVariants.{Space, Relax, Par
 -- primitive's place there is its code. Every other name is undefined
 unfoldable pub command_named : ℕ → Command
 command_named place =
-    if place == 0 then Input
-    else if place == 148 then Catcode
-    else if place == 210 then Relax
-    else if place == 214 then Par
-    else if place == 215 then End
-    else if place == 217 then Message
+    if place == input_code then Input
+    else if place == catcode_code then Catcode
+    else if place == relax_code then Relax
+    else if place == par_code then Par
+    else if place == end_code then End
+    else if place == message_code then Message
     else Undefined
 
 -- a character of category 10 is a space

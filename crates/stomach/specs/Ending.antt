@@ -1,6 +1,5 @@
 -- How a run ends, and what is shown then (tex.web 93 to 95, 642 and 1333 to 1335).
-use Rattle.std.specs.Prelude.{◌≡◌, ◌<◌, ℕ, min, Option, Some, None, Result, Bool, true, false, List, [], ◌∷◌, ◌++◌, Ok, Err, codes}
-use Rattle.std.specs.declared.alloc.AllocError.{AllocError}
+use Rattle.std.specs.Prelude.{◌≡◌, ◌<◌, ℕ, min, Option, Some, None, Result, Bool, true, false, List, [], ◌++◌, Ok, Err, codes}
 use Rattle.tokens.specs.Cap.{cap_text}
 use Rattle.tokens.specs.Kind.{kind_text}
 use Rattle.tokens.specs.declared.stop.Stop.{Stop}
@@ -13,10 +12,9 @@ use Rattle.asking.specs.Meaning.{Place, Meaning, walk, asked_at}
 use Rattle.asking.specs.Seen.{is_prefix}
 use Rattle.stomach.specs.declared.ending.Exit.{Exit}
 use Rattle.stomach.specs.declared.ending.Exit.TheVariants as exits
-use Rattle.stomach.specs.declared.pending.Item.{Item}
-use Rattle.stomach.specs.declared.pending.Item.TheVariants.{Back, Inserted, From}
 use Rattle.stomach.specs.declared.state.State.{State}
-use Rattle.stomach.specs.Report.{shown, told_why, without_pages}
+use Rattle.stomach.specs.Pending.{files_closed}
+use Rattle.stomach.specs.Report.{told_why, without_pages}
 
 -- what is told of an early end
 abbrev pub reason_of : Stop → List ℕ → List ℕ
@@ -26,17 +24,6 @@ reason_of Spent asked = codes "Step budget spent"
 reason_of ReadFault asked = codes "Read fault: " ++ asked
 reason_of WriteFault asked = []
 reason_of OutOfMemory asked = []
-
--- at \end each file that is still open is closed
-abbrev pub closed : Bool → Output → Output
-closed true o = shown (32 ∷ 41 ∷ []) o
-closed false o = o
-
-abbrev pub files_closed : List Item → Output → Output
-files_closed [] o = o
-files_closed (Back token ∷ rest) o = files_closed rest o
-files_closed (Inserted token ∷ rest) o = files_closed rest o
-files_closed (From source ∷ rest) o = files_closed rest (closed source.is_file o)
 
 -- the exit of an early end
 abbrev pub exit_of : Stop → Exit

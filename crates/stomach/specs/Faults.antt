@@ -1,6 +1,6 @@
 -- Which counts of failed calls rise in a run, by its exit.
 use Rattle.std.specs.Prelude.{◌≡◌, ℕ, ◌≤◌, Bool}
-use Rattle.asking.specs.Seen.{Outside, Seen, Rose}
+use Rattle.asking.specs.Seen.{Rose}
 use Rattle.stomach.specs.declared.ending.Exit.{Exit}
 use Rattle.stomach.specs.declared.ending.Exit.TheVariants.{Done, Trouble, Usage, Capacity, Spent, ReadFault, WriteFault, OutOfMemory}
 

@@ -1,6 +1,6 @@
 -- The whole run: its beginning, turn after turn, and its ending. It is a function of the files outside, of the first
 -- line and of the number of turns; it is over where these turns are.
-use Rattle.std.specs.Prelude.{◌≡◌, ℕ, negsuc, Bool, true, false, not, ◌==◌, List, [], ◌∷◌, ◌++◌, Option, Some, None, is_some}
+use Rattle.std.specs.Prelude.{◌≡◌, ℕ, negsuc, Bool, true, false, not, ◌==◌, List, [], ◌∷◌, ◌++◌, Option, Some, is_some}
 use Rattle.tokens.specs.Budget.{unused}
 use Rattle.tokens.specs.Categories.{initial_categories}
 use Rattle.tokens.specs.Primitives.{primitive_names}
@@ -10,10 +10,9 @@ use Rattle.world.specs.Calls.{WhereTold}
 use Rattle.world.specs.Output.{nothing_yet}
 use Rattle.world.specs.Told.{Told}
 use Rattle.asking.specs.Known.{counted_more, outside_of}
-use Rattle.asking.specs.Meaning.{Place, Meaning, Meant}
+use Rattle.asking.specs.Meaning.{Place, Meaning}
 use Rattle.asking.specs.Seen.{Outside}
 use Rattle.asking.specs.Turns.{turns, OverLaw, ShownLaw}
-use Rattle.stomach.specs.declared.ending.Exit.{Exit}
 use Rattle.stomach.specs.declared.machine.Ended.{Ended}
 use Rattle.stomach.specs.declared.pending.Item.TheVariants.{From}
 use Rattle.stomach.specs.declared.state.State.{State}

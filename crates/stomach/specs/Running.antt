@@ -1,7 +1,7 @@
 -- What a run says that shows and fetches through a library, by its exit.
-use Rattle.std.specs.Prelude.{◌≡◌, ℕ, Bool, true, false, List, Result, Ok, Err}
+use Rattle.std.specs.Prelude.{◌≡◌, ℕ, Bool, false, Result, Ok, Err}
 use Rattle.tokens.specs.declared.stop.Stop.{Stop}
-use Rattle.asking.specs.Meaning.{Meaning, Meant}
+use Rattle.asking.specs.Meaning.{Meant}
 use Rattle.asking.specs.Seen.{Outside, Seen, Told, DoesBeside}
 use Rattle.asking.specs.Turns.{turns}
 use Rattle.stomach.specs.declared.ending.Exit.{Exit}

@@ -1,8 +1,7 @@
 //! How a run ends, and what is shown then (`tex.web` 93 to 95, 642 and 1333 to 1335).
 ghost use Rattle.std.specs.Prelude.{◌≡◌, OnOk, IfOk};
-ghost use Rattle.stomach.specs.Ending.{reason_of, exit_of, files_closed, ended_well, ended_early};
+ghost use Rattle.stomach.specs.Ending.{reason_of, exit_of, ended_well, ended_early};
 
-use crate::pending::Item;
 use crate::report;
 use crate::state::State;
 use std::alloc::{AllocError, Global};

@@ -63,7 +63,11 @@ impl Machine {
     {
         let steps = start.budget;
         let state = beginning(alloc, start.line, steps)?;
-        Ok(Machine { alloc, state, steps })
+        Ok(Machine {
+            alloc,
+            state,
+            steps,
+        })
     }
 
     /// All turns, and the ending.
@@ -119,7 +123,13 @@ impl State {
     }
 
     /// Shows the ending of turns. Behind a refused write, and where memory ran out, nothing more is shown.
-    fn show_ending<L: Library>(&mut self, alloc: Global, library: &mut L, ending: &Result<(), Stop>, given: u64) -> Exit
+    fn show_ending<L: Library>(
+        &mut self,
+        alloc: Global,
+        library: &mut L,
+        ending: &Result<(), Stop>,
+        given: u64,
+    ) -> Exit
         ensures runs { (old : Seen) (once : State → Meant State Bool) (first : State) → DoesAll L.outside old (L.seen library.old) ending.now self.old once first
             → Runs L.outside old (L.seen library.new) result (min self.new.budget.used given) given once first }
     {

@@ -1,9 +1,8 @@
-use Rattle.std.proofs.Common.{◌≡◌, ℕ, None, Some, Ok, Err, sym, ◌∙◌, ap, subst}
-use Rattle.std.specs.Prelude.{min, Option}
+use Rattle.std.proofs.Common.{◌≡◌, None, Some, sym, subst}
+use Rattle.std.specs.Prelude.{min}
 use Rattle.tokens.specs.Budget.{Allowance}
-use Rattle.stomach.specs.declared.ending.Exit.{Exit}
 use Rattle.stomach.specs.declared.ending.Exit.TheVariants as exits
-use Rattle.stomach.specs.Ending.{cut_short, exit_by, output_by, exit_after}
+use Rattle.stomach.specs.Ending.{cut_short}
 use Rattle.stomach.specs.Running.{Runs}
 use Rattle.stomach.proofs.Finishing.{runs_cut, runs_unshown, runs_finished}
 use Rattle.stomach.proofs.state.State.show_ending.Goals as goal
@@ -21,7 +20,7 @@ returns-in_default-conclude g c = record {
       let e : cut_short c.args.ending.now ≡ None = sym c.in_default.ensures.value in
       let P : Allowance → Type 0 = λ b. Runs g.L.Library.outside old (g.L.Library.seen c.args.library.now) exits.OutOfMemory (min b.used c.args.given) c.args.given once first in
       subst P (sym c.conclude.ensures.budget)
-          (runs_unshown g.L.Library.outside old (g.L.Library.seen c.args.library.now) c.args.given once first c.args.self.now c.args.ending.now e h);
+      (runs_unshown g.L.Library.outside old (g.L.Library.seen c.args.library.now) c.args.given once first c.args.self.now c.args.ending.now e h);
 }
 
 pub returns : goal.returns
@@ -30,7 +29,7 @@ returns g c = record {
       let e : cut_short c.args.ending.now ≡ None = sym c.in_default.ensures.value in
       let P : Allowance → Type 0 = λ b. Runs g.L.Library.outside old (g.L.Library.seen c.show.new.self) c.exit_after.result (min b.used c.args.given) c.args.given once first in
       subst P (sym c.conclude.ensures.budget)
-          (runs_finished g.L.Library.outside old (g.L.Library.seen c.args.library.now) c.args.given once first c.args.self.now (g.L.Library.seen c.show.new.self)
-              c.args.ending.now c.show.result c.in-Ok.exit c.exit_after.result c.conclude.new.self.printer e c.in-Ok.ensures.exit c.in-Ok.ensures.output
-              c.exit_after.ensures.value h c.show.ensures.shows);
+      (runs_finished g.L.Library.outside old (g.L.Library.seen c.args.library.now) c.args.given once first c.args.self.now (g.L.Library.seen c.show.new.self)
+      c.args.ending.now c.show.result c.in-Ok.exit c.exit_after.result c.conclude.new.self.printer e c.in-Ok.ensures.exit c.in-Ok.ensures.output
+      c.exit_after.ensures.value h c.show.ensures.shows);
 }

@@ -9,7 +9,7 @@ turns-init g c = turns_start (turn g.L.Library.outside) g.L.Library.outside (g.L
 pub turns-preserved : goal.turns-preserved
 turns-preserved g c =
     turns_next (turn g.L.Library.outside) g.L.Library.outside (g.L.Library.seen c.args.library.now) (g.L.Library.seen c.turns.library) _ (Ok true)
-        c.args.self.now c.turns.self c.turn.new.self c.turns.invariant (rw c.in-Ok-true.field-0-test at c.in-Ok-true.ensures.does)
+    c.args.self.now c.turns.self c.turn.new.self c.turns.invariant (rw c.in-Ok-true.field-0-test at c.in-Ok-true.ensures.does)
 
 pub returns-in-Ok-false : goal.returns-in-Ok-false
 returns-in-Ok-false g c = record {

@@ -11,4 +11,4 @@ decreases-turns g l = work l.self
 abbrev pub invariant-turns : goal.invariant-turns
 invariant-turns g l =
     DoesTurns g.L.Library.outside (g.L.Library.seen l.initial.library) (g.L.Library.seen l.library) (Ok true) l.self
-        (turn g.L.Library.outside) l.initial.self
+    (turn g.L.Library.outside) l.initial.self
