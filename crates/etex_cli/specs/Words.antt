@@ -1,46 +1,44 @@
 -- What the words of a command line ask for, and how a run on them ends.
-use Rattle.std.specs.Prelude.{◌≡◌, ◌≢◌, ℕ, ◌==◌, if◌then◌else◌, List, [], ◌∷◌, ◌++◌, Option, Some}
-use Rattle.world.specs.Told.{Told}
+use Rattle.std.specs.Prelude.{◌≡◌, ℕ, ◌==◌, if◌then◌else◌, List, [], ◌∷◌, ◌++◌, take, Option, Some, None, codes}
+use Rattle.world.specs.Calls.{WhereTold}
+use Rattle.world.specs.Told.{Told, with_shown}
 use Rattle.stomach.specs.declared.ending.Exit.{Exit}
-use Rattle.stomach.specs.declared.ending.Exit.TheVariants.{Usage, ReadFault, OutOfMemory}
-use Rattle.stomach.specs.Ending.{Outcome}
-use Rattle.stomach.specs.Machine.{run}
-use Rattle.stomach.specs.Outside.{Outside, counted_more}
+use Rattle.stomach.specs.declared.ending.Exit.TheVariants.{Done, Trouble, Usage, Capacity, Spent, ReadFault, WriteFault, OutOfMemory}
+use Rattle.stomach.specs.declared.machine.Ended.{Ended}
+use Rattle.stomach.specs.Machine.{beginning, RunsFrom}
 
 -- the first line: a word without the asterisk in front of it, byte 42
 abbrev pub line_of : List ℕ → List ℕ
 line_of [] = []
 line_of (first ∷ rest) = (if first == 42 then rest else first ∷ rest)
 
--- words that are no first line are answered by a text, without a step and without a fetch
-abbrev pub usage_outcome : List ℕ → Outcome
-usage_outcome text = record { exit = Usage; output = record { unflushed = text; terminal = 0; log = 0 }; steps = 0; fetches = 0 }
+-- one word is the first line, and no other number of words has one
+abbrev pub first_line : List (List ℕ) → Option (List ℕ)
+first_line [] = None
+first_line (word ∷ []) = Some (line_of word)
+first_line (word ∷ next ∷ rest) = None
 
--- the run on the words of a command line: one word is the first line of a run of so many steps, and any other
--- words are answered by how the program is called
-abbrev pub run_on : List ℕ → Outside → List (List ℕ) → ℕ → Outcome
-run_on usage outside [] steps = usage_outcome usage
-run_on usage outside (word ∷ []) steps = run outside (line_of word) steps
-run_on usage outside (word ∷ next ∷ rest) steps = usage_outcome usage
+-- how the program is called
+abbrev pub usage : List ℕ
+usage = codes "usage: etex_cli [--steps N] [--stamp YYYYMMDDHHMM] [--generate N] [WORD ...]" ++ 10 ∷ []
 
--- a run ended as an outcome says: with its exit, its text stands on the terminal behind what stood there, so many
--- more fetches were counted, and the files are as they were
-pub record IsRun (o : Outcome) (exit : Exit) (before after : Told) : Type 0 where
-  pub exit_is : exit ≡ o.exit
-  pub terminal : after.terminal ≡ before.terminal ++ o.output.unflushed
-  pub fetched : after.fetched ≡ counted_more o.fetches before.fetched
-  pub files : after.files ≡ before.files
+-- words that are no first line are answered by how the program is called, without a fetch. Where that could not be
+-- shown, the terminal shows a beginning of it
+abbrev pub ShowsUsage : Exit → Option Told → Option Told → Type 0
+ShowsUsage Done old new = ⊥
+ShowsUsage Trouble old new = ⊥
+ShowsUsage Usage old new = WhereTold (λ t u. u ≡ with_shown usage t) old new
+ShowsUsage Capacity old new = ⊥
+ShowsUsage Spent old new = ⊥
+ShowsUsage ReadFault old new = ⊥
+ShowsUsage WriteFault old new = WhereTold (λ t u. (n : ℕ) × (u ≡ with_shown (take n usage) t)) old new
+ShowsUsage OutOfMemory old new = WhereTold (λ t u. (n : ℕ) × (u ≡ with_shown (take n usage) t)) old new
 
--- where the world tells, no read and no write failed and memory didn't run out, the run ended as that outcome says
--- which goes by what the world told
-abbrev pub EndsAs : (Told → Outcome) → Exit → Option Told → Option Told → ℕ → ℕ → ℕ → ℕ → Type 0
-EndsAs outcome exit old new reads reads_after writes writes_after =
-    (t u : Told) → old ≡ Some t → new ≡ Some u → reads_after ≡ reads → writes_after ≡ writes → exit ≢ OutOfMemory
-    → IsRun (outcome t) exit t u
+-- how a run of so many steps on a first line ended
+abbrev pub Runs : List ℕ → ℕ → Ended → Option Told → Option Told → ℕ → ℕ → Type 0
+Runs line steps ended old new reads reads_after = RunsFrom (beginning line steps) steps ended old new reads reads_after
 
--- where the world tells and the exit is ReadFault, the run ended as that outcome says whose failing fetch is its
--- last, and so has the number by which the world's count of fetches rose
-abbrev pub FailsAsLast : (Told → Option ℕ → Outcome) → Exit → Option Told → Option Told → Type 0
-FailsAsLast outcome exit old new =
-    (t u : Told) → old ≡ Some t → new ≡ Some u → exit ≡ ReadFault
-    → (n : ℕ) × (((outcome t (Some n)).fetches ≡ n) × IsRun (outcome t (Some n)) exit t u)
+-- the program on what may be a first line: a run of 1,000,000,000 steps with this exit, or how the program is called
+abbrev pub RunsOn : Option (List ℕ) → Exit → Option Told → Option Told → ℕ → ℕ → Type 0
+RunsOn None exit old new reads reads_after = (reads_after ≡ reads) × ShowsUsage exit old new
+RunsOn (Some line) exit old new reads reads_after = (ended : Ended) × ((ended.exit ≡ exit) × Runs line 1000000000 ended old new reads reads_after)

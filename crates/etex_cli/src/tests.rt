@@ -5,6 +5,7 @@ use std::test::Fail;
 use stomach::{Exit, Machine, Start};
 use world::{HonestWorld, World, WorldError};
 
+mod faults;
 mod inputs;
 
 /// The line that gives braces, `#` and `^` their categories.
