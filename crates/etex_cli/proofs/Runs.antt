@@ -16,13 +16,13 @@ pub no_run : (line : List ℕ) (steps : ℕ) (told : Option Told) (reads : ℕ)
 unfolding is_prefix
 no_run line steps None reads = tt
 no_run line steps (Some t) reads = record {
-    text = [];
-    terminal = sym (append-nil t.terminal);
-    fetched = refl;
-    files = refl;
-    turns = 0;
-    ends = record { whole = λ h. refl; failed = λ h. absurd (omega (arith, h)) };
-  }
+  text = [];
+  terminal = sym (append-nil t.terminal);
+  fetched = refl;
+  files = refl;
+  turns = 0;
+  ends = record { whole = λ h. refl; failed = λ h. absurd (omega (arith, h)) };
+}
 
 -- the run on the words is that on their first line
 pub runs_on : (first : Option (List ℕ)) (line : List ℕ) (ended : Ended) (old new : Option Told) (reads reads_after : ℕ)

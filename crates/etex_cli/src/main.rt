@@ -1,5 +1,6 @@
 //! The program: TeX on the first line that its words give, over the files of the current folder.
 #![tactic(auto)]
+
 ghost use Rattle.std.specs.Prelude.{◌≡◌};
 ghost use Rattle.etex_cli.specs.Program.{behind_name, status_of, status_without_words};
 

@@ -180,7 +180,16 @@ fn files_that_end(rt: HostRuntime) -> Result<(), Fail> {
     let passed = "(a.tex)\n! No \\end found.\nNo pages of output.\n";
     assert!(rt; shows(alloc, "a", "a.tex", "\\catcode", Exit::Trouble, passed)?);
     assert!(rt; shows(alloc, "a", "a.tex", "\\catcode`a=1%", Exit::Trouble, passed)?);
-    assert!(rt; shows(alloc, "a", "a.tex", "\\catcode`a=12%", Exit::Trouble, passed)?);
+    assert!(rt;
+        shows(
+            alloc,
+            "a",
+            "a.tex",
+            "\\catcode`a=12%",
+            Exit::Trouble,
+            passed
+        )?
+    );
     let ended = "(a.tex)\n! File ended while scanning.\nNo pages of output.\n";
     assert!(rt; runs(alloc, "a", "a.tex", "\\message{x", Exit::Trouble, ended)?);
     Ok(())

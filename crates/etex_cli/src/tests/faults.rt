@@ -8,15 +8,35 @@ use world::MemWorld;
 /// A call's number, and the exit and the terminal's text of the run in which it fails.
 const ROWS: &[(u64, Exit, &str)] = &[
     (1, Exit::WriteFault, ""),
-    (2, Exit::ReadFault, "! Read fault: a.tex.\nNo pages of output.\n"),
+    (
+        2,
+        Exit::ReadFault,
+        "! Read fault: a.tex.\nNo pages of output.\n",
+    ),
     (3, Exit::WriteFault, ""),
-    (4, Exit::ReadFault, "(a.tex\n! Read fault: b.tex.\nNo pages of output.\n"),
+    (
+        4,
+        Exit::ReadFault,
+        "(a.tex\n! Read fault: b.tex.\nNo pages of output.\n",
+    ),
     (5, Exit::WriteFault, "(a.tex"),
-    (6, Exit::ReadFault, "(a.tex (b.tex)\n! Read fault: c.tex.\nNo pages of output.\n"),
+    (
+        6,
+        Exit::ReadFault,
+        "(a.tex (b.tex)\n! Read fault: c.tex.\nNo pages of output.\n",
+    ),
     (7, Exit::WriteFault, "(a.tex (b.tex)"),
-    (8, Exit::ReadFault, "(a.tex (b.tex) (c.tex)\n! Read fault: d.tex.\nNo pages of output.\n"),
+    (
+        8,
+        Exit::ReadFault,
+        "(a.tex (b.tex) (c.tex)\n! Read fault: d.tex.\nNo pages of output.\n",
+    ),
     (9, Exit::WriteFault, "(a.tex (b.tex) (c.tex)"),
-    (10, Exit::Done, "(a.tex (b.tex) (c.tex) (d.tex) )\nNo pages of output.\n"),
+    (
+        10,
+        Exit::Done,
+        "(a.tex (b.tex) (c.tex) (d.tex) )\nNo pages of output.\n",
+    ),
 ];
 
 /// Whether the run in which this call fails ends and shows so.

@@ -109,7 +109,10 @@ const IN_FILES: &[Row] = &[
     },
     Row {
         line: "a",
-        files: &[("a.tex", "\\input b \\end\n"), ("b.tex", "\\input nope \\relax\n")],
+        files: &[
+            ("a.tex", "\\input b \\end\n"),
+            ("b.tex", "\\input nope \\relax\n"),
+        ],
         exit: Exit::Trouble,
         text: "(a.tex (b.tex\n! File not found: nope.tex.\nNo pages of output.\n",
     },
