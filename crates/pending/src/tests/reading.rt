@@ -67,7 +67,9 @@ fn show_token(token: Token, desk: &Desk, text: &mut Vec<u8>) -> Result<(), Fail>
         Token::Char { byte, .. } => text.push(byte)?,
         Token::Name(id) => {
             text.push(b'[')?;
-            text.extend_from_slice(desk.names.text(id))?;
+            if id.0 < desk.names.len() {
+                text.extend_from_slice(desk.names.text(id))?;
+            }
             text.push(b']')?;
         }
         _ => text.push(b'?')?,

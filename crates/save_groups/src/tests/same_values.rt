@@ -1,5 +1,6 @@
 //! Assignments of the very value that stands there (the e-TeX manual, on assignments that change nothing).
-ghost use Rattle.std.specs.Prelude.{◌≡◌, ◌<◌};
+ghost use Rattle.std.specs.Prelude.{◌≡◌, ◌<◌, Bool, IfOk, IsTrue};
+ghost use Rattle.save_groups.specs.Values.{names_in_mode};
 
 use super::{
     Groups, NAME, Place, SKIP, Step, TOKS, check_saves, follow, glue, list, means, some_glue,
@@ -32,7 +33,9 @@ fn same_number<L: Ledger>(
     follow(rt, groups, &[(Step::End, 5)])
 }
 
-fn some_macro(alloc: Global, long: bool) -> Result<Meaning, Stop> {
+fn some_macro(alloc: Global, long: bool) -> Result<Meaning, Stop>
+    ensures { IfOk result (λ meaning. (extended : Bool) → IsTrue (names_in_mode extended meaning)) }
+{
     Ok(Meaning::Macro(Macro {
         long,
         outer: false,
