@@ -7,8 +7,8 @@ use Rattle.conditionals.specs.declared.skip.Skip.TheVariants.{Go, Stopped}
 use Rattle.conditionals.specs.declared.word.Word.{Word}
 use Rattle.conditionals.specs.declared.word.Word.TheVariants.{Opener, Or, Else, Fi, Other}
 use Rattle.conditionals.specs.Word.{word_of}
-use Rattle.conditionals.specs.Branches.{Item, Condition, Parting, Turning, Plain, width, item_width, Texts, opened, onto, with_word, texts, Stopping, behind, at_fi as at_last_fi, stop_in, stop_around, stop_among, stop_of}
-use Rattle.conditionals.specs.Skipping.{Skipping, stop_from, StandsFor, Tells, at_fi, at_else, at_or, after_word}
+use Rattle.conditionals.specs.Branches.{Item, Parting, Turning, Plain, width, item_width, Texts, opened, with_word, texts, Stopping, behind, stop_in, stop_around, stop_among, stop_of}
+use Rattle.conditionals.specs.Skipping.{Skipping, stop_from, StandsFor, Tells, TellsWord}
 
 behind-behind : (a b c : ℕ) (stop : Option Stopping) → c ≡ a + b → behind a (behind b stop) ≡ behind c stop
 behind-behind a b c None e = refl
@@ -22,6 +22,26 @@ Stepped found (Stopped word) scan parts = found ≡ Some (record { taken = 1; wo
 
 abbrev pub scan_of : ℕ → ℕ → Skipping
 scan_of inner sought = record { inner = inner; sought = sought }
+
+-- the answer to one more token, and what is kept then, for each word
+abbrev pub at_fi : ℕ → ℕ → Skip × Skipping
+at_fi zero sought = (Stopped 0, scan_of 0 sought)
+at_fi (suc inner) sought = (Go, scan_of inner sought)
+
+abbrev pub at_else : ℕ → ℕ → Skip × Skipping
+at_else zero sought = (Stopped 1, scan_of 0 sought)
+at_else (suc inner) sought = (Go, scan_of (suc inner) sought)
+
+abbrev pub at_or : ℕ → ℕ → Skip × Skipping
+at_or zero sought = if sought == 1 then (Stopped 2, scan_of 0 sought) else (Go, scan_of 0 (sought - 1))
+at_or (suc inner) sought = (Go, scan_of (suc inner) sought)
+
+abbrev pub after_word : Word → Skipping → Skip × Skipping
+after_word Opener scan = (Go, scan_of (min (scan.inner + 1) 18446744073709551615) scan.sought)
+after_word Or scan = at_or scan.inner scan.sought
+after_word Else scan = at_else scan.inner scan.sought
+after_word Fi scan = at_fi scan.inner scan.sought
+after_word Other scan = (Go, scan)
 
 abbrev pub SteppedTo : Option Stopping → Skip × Skipping → Texts → Type 0
 SteppedTo found answer parts = Stepped found answer.0 answer.1 parts
@@ -74,15 +94,35 @@ parted-within : (b : Bool) (sought : ℕ)
 parted-within true sought = omega arith
 parted-within false sought = omega arith
 
-word-within : (word : Word) (inner sought : ℕ) → (after_word word (scan_of inner sought)).1.inner ≤ inner + 1
-word-within Opener inner sought = omega arith
-word-within Or zero sought = parted-within (sought == 1) sought
-word-within Or (suc inner) sought = omega arith
-word-within Else zero sought = omega arith
-word-within Else (suc inner) sought = omega arith
-word-within Fi zero sought = omega arith
-word-within Fi (suc inner) sought = omega arith
-word-within Other inner sought = omega arith
+within_by_word : (word : Word) (inner sought : ℕ) → (after_word word (scan_of inner sought)).1.inner ≤ inner + 1
+within_by_word Opener inner sought = omega arith
+within_by_word Or zero sought = parted-within (sought == 1) sought
+within_by_word Or (suc inner) sought = omega arith
+within_by_word Else zero sought = omega arith
+within_by_word Else (suc inner) sought = omega arith
+within_by_word Fi zero sought = omega arith
+within_by_word Fi (suc inner) sought = omega arith
+within_by_word Other inner sought = omega arith
+
+-- what the code does at a word tells what the word is to the text
+stepped_tells : (word : Word) (before : Skipping) (answer : Skip × Skipping)
+    → ((parts : Texts) → SteppedTo (stop_among before.inner before.sought (with_word word parts)) answer parts)
+    → TellsWord word before answer.0 answer.1
+unfolding TellsWord
+stepped_tells word before (Go, after) steps = λ more. steps (texts (map word_of more))
+stepped_tells word before (Stopped number, after) steps = λ more. steps (texts (map word_of more))
+
+pub word_tells : (word : Word) (before : Skipping) (skip : Skip) (after : Skipping) → before.inner + 1 < 2 ^ 64
+    → after_word word before ≡ (skip, after) → TellsWord word before skip after
+word_tells word before skip after small answered =
+    let T : Skip × Skipping → Type 0 = λ answer. TellsWord word before answer.0 answer.1 in
+    subst T answered (stepped_tells word before (after_word word before) (λ parts. word-step word before.inner before.sought parts (omega arith)))
+
+pub word_within : (word : Word) (before : Skipping) (skip : Skip) (after : Skipping)
+    → after_word word before ≡ (skip, after) → after.inner ≤ before.inner + 1
+word_within word before skip after answered =
+    let W : Skip × Skipping → Type 0 = λ answer. answer.1.inner ≤ before.inner + 1 in
+    subst W answered (within_by_word word before.inner before.sought)
 
 -- nothing to come ends nothing
 stop_from-nothing : (inner sought : ℕ) → stop_around inner sought [] [] ≡ None
@@ -95,9 +135,10 @@ appended-nothing (x ∷ xs) = ap (λ ys. x ∷ ys) (appended-nothing xs)
 
 told : (sought : ℕ) (taken : List Meaning) (meaning : Meaning) (old new : Skipping) (skip : Skip)
     → StandsFor sought taken old
-    → ((more : List Meaning) → Stepped (stop_from old (meaning ∷ more)) skip new (texts (map word_of more)))
+    → TellsWord (word_of meaning) old skip new
     → new.inner ≤ old.inner + 1
     → Tells sought (taken ++ meaning ∷ []) skip new
+unfolding TellsWord
 told sought taken meaning old new Go stands steps within =
     let all : List Meaning = taken ++ meaning ∷ [] in
     let long : length all ≡ length taken + 1 = length-append taken (meaning ∷ []) in
@@ -124,16 +165,10 @@ told sought taken meaning old new (Stopped word) stands steps within = λ more.
 -- a scan's answer to one more token tells what the whole list says
 pub scan-tells : (sought : ℕ) (taken : List Meaning) (meaning : Meaning) (old new : Skipping) (skip : Skip)
     → length taken + 1 < 2 ^ 64 → StandsFor sought taken old
-    → after_word (word_of meaning) old ≡ (skip, new)
+    → (old.inner + 1 < 2 ^ 64 → TellsWord (word_of meaning) old skip new) → new.inner ≤ old.inner + 1
     → Tells sought (taken ++ meaning ∷ []) skip new
-scan-tells sought taken meaning old new skip short stands answered =
-    let small : old.inner < 18446744073709551615 = omega (arith, stands.within) in
-    let S : Skip × Skipping → Type 0 =
-    λ answer. (more : List Meaning) → SteppedTo (stop_from old (meaning ∷ more)) answer (texts (map word_of more)) in
-    let W : Skip × Skipping → Type 0 = λ answer. answer.1.inner ≤ old.inner + 1 in
-    told sought taken meaning old new skip stands
-    (subst S answered (λ more. word-step (word_of meaning) old.inner old.sought (texts (map word_of more)) small))
-    (subst W answered (word-within (word_of meaning) old.inner old.sought))
+scan-tells sought taken meaning old new skip short stands tells within =
+    told sought taken meaning old new skip stands (tells (omega (arith, stands.within))) within
 
 -- a new scan stands for nothing taken
 pub scan-new : (sought : ℕ) → StandsFor sought [] (scan_of 0 sought)

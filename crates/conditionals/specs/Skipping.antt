@@ -1,13 +1,11 @@
 -- A scan of a text that is passed over: what it has to keep of the tokens that it took.
-use Rattle.std.specs.Prelude.{◌≡◌, ℕ, ◌+◌, ◌-◌, ◌==◌, ◌≤◌, List, ◌++◌, length, map, Option, Some, None, min, if◌then◌else◌}
-use Rattle.std.proofs.Common.{zero, suc}
+use Rattle.std.specs.Prelude.{◌≡◌, ℕ, ◌≤◌, List, ◌++◌, length, map, Option, Some, None}
 use Rattle.tokens.specs.declared.meaning.Meaning.{Meaning}
 use Rattle.conditionals.specs.declared.skip.Skip.{Skip}
 use Rattle.conditionals.specs.declared.skip.Skip.TheVariants.{Go, Stopped}
 use Rattle.conditionals.specs.declared.word.Word.{Word}
-use Rattle.conditionals.specs.declared.word.Word.TheVariants.{Opener, Or, Else, Fi, Other}
 use Rattle.conditionals.specs.Word.{word_of}
-use Rattle.conditionals.specs.Branches.{Stopping, texts, behind, stop_among, stop_of}
+use Rattle.conditionals.specs.Branches.{Stopping, texts, with_word, behind, stop_among, stop_of}
 
 -- how many inner conditions are open, and which \or of those to come is the sought one, or 0
 pub record Skipping : Type 0 where
@@ -34,24 +32,13 @@ Tells sought taken (Stopped word) scan =
 
 -- ---- one token
 
--- the answer to one more token, and what is kept then; the number of inner conditions stays below 2^64
-abbrev pub at_fi : ℕ → ℕ → Skip × Skipping
-at_fi zero sought = (Stopped 0, record { inner = 0; sought = sought })
-at_fi (suc inner) sought = (Go, record { inner = inner; sought = sought })
+-- whether and where a word with what is to come behind it ends the text
+abbrev pub stop_at : Skipping → Word → List Meaning → Option Stopping
+stop_at scan word more = stop_among scan.inner scan.sought (with_word word (texts (map word_of more)))
 
-abbrev pub at_else : ℕ → ℕ → Skip × Skipping
-at_else zero sought = (Stopped 1, record { inner = 0; sought = sought })
-at_else (suc inner) sought = (Go, record { inner = suc inner; sought = sought })
-
-abbrev pub at_or : ℕ → ℕ → Skip × Skipping
-at_or zero sought =
-    if sought == 1 then (Stopped 2, record { inner = 0; sought = sought })
-    else (Go, record { inner = 0; sought = sought - 1 })
-at_or (suc inner) sought = (Go, record { inner = suc inner; sought = sought })
-
-abbrev pub after_word : Word → Skipping → Skip × Skipping
-after_word Opener scan = (Go, record { inner = min (scan.inner + 1) 18446744073709551615; sought = scan.sought })
-after_word Or scan = at_or scan.inner scan.sought
-after_word Else scan = at_else scan.inner scan.sought
-after_word Fi scan = at_fi scan.inner scan.sought
-after_word Other scan = (Go, scan)
+-- what an answer says of the word that was taken, whatever comes behind it: the text ends where the scan finds
+-- its end behind the word, or it ends with the word itself
+unfoldable pub TellsWord : Word → Skipping → Skip → Skipping → Type 0
+TellsWord word before Go after = (more : List Meaning) → stop_at before word more ≡ behind 1 (stop_from after more)
+TellsWord word before (Stopped number) after =
+    (more : List Meaning) → stop_at before word more ≡ Some (record { taken = 1; word = number })

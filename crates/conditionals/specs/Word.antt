@@ -1,9 +1,9 @@
 -- What a token is to a text that is passed over, by its meaning (The TeXbook, chapter 20; tex.web 487 to 489;
--- the e-TeX manual, section 3.2). The numbers are the codes of primitives: the places of their names in
--- the two tables.
+-- the e-TeX manual, section 3.2).
 use Rattle.std.specs.Prelude.{◌≡◌, ℕ, Bool, ◌==◌, ◌&&◌, ◌||◌, nat_le, List, [], ◌∷◌, map, codes, if◌then◌else◌}
 use Rattle.tokens.specs.declared.meaning.Meaning.{Meaning}
 use Rattle.tokens.specs.declared.meaning.Meaning.TheVariants as meanings
+use Rattle.tokens.specs.Codes.{if_code, ifcat_code, ifnum_code, ifdim_code, ifodd_code, ifvmode_code, ifhmode_code, ifmmode_code, ifinner_code, ifvoid_code, ifhbox_code, ifvbox_code, ifx_code, ifeof_code, iftrue_code, iffalse_code, ifcase_code, else_code, or_code, fi_code, ifdefined_code, ifcsname_code, iffontchar_code}
 use Rattle.tokens.specs.Names.{name_at}
 use Rattle.tokens.specs.Primitives.{primitive_names}
 use Rattle.conditionals.specs.declared.word.Word.{Word}
@@ -11,13 +11,14 @@ use Rattle.conditionals.specs.declared.word.Word.TheVariants.{Opener, Or, Else, 
 
 -- the codes that begin a condition: \if to \ifcase, and \ifdefined, \ifcsname and \iffontchar
 abbrev pub is_opener : ℕ → Bool
-is_opener code = (nat_le 17 code && nat_le code 33) || (nat_le 329 code && nat_le code 331)
+is_opener code =
+    (nat_le if_code code && nat_le code ifcase_code) || (nat_le ifdefined_code code && nat_le code iffontchar_code)
 
 abbrev pub word_of_code : ℕ → Word
 word_of_code code =
-    if code == 35 then Or
-    else if code == 34 then Else
-    else if code == 36 then Fi
+    if code == or_code then Or
+    else if code == else_code then Else
+    else if code == fi_code then Fi
     else if is_opener code then Opener
     else Other
 
@@ -35,7 +36,9 @@ word_of (meanings.Font font) = Other
 -- the codes of conditions in their order, as `\currentiftype` counts them from 1
 abbrev pub opener_codes : List ℕ
 opener_codes =
-    17 ∷ 18 ∷ 19 ∷ 20 ∷ 21 ∷ 22 ∷ 23 ∷ 24 ∷ 25 ∷ 26 ∷ 27 ∷ 28 ∷ 29 ∷ 30 ∷ 31 ∷ 32 ∷ 33 ∷ 329 ∷ 330 ∷ 331 ∷ []
+    if_code ∷ ifcat_code ∷ ifnum_code ∷ ifdim_code ∷ ifodd_code ∷ ifvmode_code ∷ ifhmode_code ∷ ifmmode_code ∷
+    ifinner_code ∷ ifvoid_code ∷ ifhbox_code ∷ ifvbox_code ∷ ifx_code ∷ ifeof_code ∷ iftrue_code ∷ iffalse_code ∷
+    ifcase_code ∷ ifdefined_code ∷ ifcsname_code ∷ iffontchar_code ∷ []
 
 -- their names
 abbrev pub opener_names : List (List ℕ)
@@ -48,7 +51,7 @@ opener_names =
 -- the codes are the places of these names in the tables
 pub record WordsLaw : Type 0 where
   pub openers_named : map (name_at primitive_names) opener_codes ≡ opener_names
-  pub or_named : name_at primitive_names 35 ≡ codes "or"
-  pub else_named : name_at primitive_names 34 ≡ codes "else"
-  pub fi_named : name_at primitive_names 36 ≡ codes "fi"
+  pub or_named : name_at primitive_names or_code ≡ codes "or"
+  pub else_named : name_at primitive_names else_code ≡ codes "else"
+  pub fi_named : name_at primitive_names fi_code ≡ codes "fi"
   pub openers_open : map (λ code. word_of_code code) opener_codes ≡ map (λ code. Opener) opener_codes

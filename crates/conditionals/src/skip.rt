@@ -1,7 +1,7 @@
 //! Passing over a text until a branch begins or the condition ends (`tex.web` 494, 500, 509 and 510).
-ghost use Rattle.std.specs.Prelude.{◌≡◌, ℕ, List, [], ◌∷◌, ◌++◌, ◌+◌, ◌<◌, ◌^◌, length};
+ghost use Rattle.std.specs.Prelude.{ℕ, List, [], ◌∷◌, ◌++◌, ◌+◌, ◌<◌, ◌≤◌, ◌^◌, length};
 ghost use Rattle.tokens.specs.declared.meaning.Meaning.{Meaning};
-ghost use Rattle.conditionals.specs.Skipping.{StandsFor, Tells, after_word};
+ghost use Rattle.conditionals.specs.Skipping.{StandsFor, Tells, TellsWord};
 
 use crate::word::{Word, word_of};
 use std::marker::Model;
@@ -51,8 +51,10 @@ impl SkipScan {
         self.take_word(word_of(meaning))
     }
 
+    #[tactic(auto, using(crate::proofs::Scanning::word_tells, crate::proofs::Scanning::word_within))]
     fn take_word(&mut self, word: Word) -> Skip
-        ensures { after_word word self.old ≡ (result, self.new) }
+        ensures tells { self.old.inner + 1 < 2 ^ 64 → TellsWord word self.old result self.new }
+        ensures within { self.new.inner ≤ self.old.inner + 1 }
     {
         match word {
             Word::Opener => self.inner = self.inner.saturating_add(1),
