@@ -130,10 +130,11 @@ pub fn argument(arguments: &[TokenList], number: u8) -> Result<TokenList, AllocE
     }
 }
 
-/// Puts a level in front. One that is used up goes before.
+/// Puts a level in front. One that is used up gives its place to it, so that no memory is taken.
 pub fn push_level(top: &mut Level, below: &mut Vec<Level>, level: Level) -> Result<(), AllocError>
     ensures ok { OnOk result (top.new ≡ level) }
     ensures below { OnOk result (SameItems (top.old ∷ reverse below.old.items) (reverse below.new.items)) }
+    ensures replaces { OnOk result (state_of top.old ≡ State.Used → below.new.items ≡ below.old.items) }
     ensures err { OnErr result (top.new ≡ top.old) }
     ensures kept { OnErr result (below.new.items ≡ below.old.items) }
 {

@@ -375,6 +375,8 @@ fn free_front(
 ) -> Result<(), AllocError>
     ensures free { OnOk result (front.new ≡ None) }
     ensures ok { OnOk result (StandBehind front.old (top.old ∷ reverse below.old.items) (top.new ∷ reverse below.new.items)) }
+    ensures stays { OnOk result (front.old ≡ None → top.new ≡ top.old) }
+    ensures replaces { OnOk result (state_of top.old ≡ State.Used → below.new.items ≡ below.old.items) }
     ensures err { OnErr result (front.new ≡ front.old) }
     ensures kept { OnErr result (top.new ≡ top.old) }
     ensures below_kept { OnErr result (below.new.items ≡ below.old.items) }
@@ -386,7 +388,7 @@ fn free_front(
     Ok(())
 }
 
-/// Puts a level in front of all.
+/// Puts a level in front of all. Where a level that is used up stands there, it gives its place to it.
 fn push_in_front(
     front: &mut Option<Waiting>,
     top: &mut Level,
@@ -396,6 +398,7 @@ fn push_in_front(
     ensures free { OnOk result (front.new ≡ None) }
     ensures ok { OnOk result (top.new ≡ level) }
     ensures below { OnOk result (StandBehind front.old (top.old ∷ reverse below.old.items) (reverse below.new.items)) }
+    ensures replaces { OnOk result (front.old ≡ None → state_of top.old ≡ State.Used → below.new.items ≡ below.old.items) }
     ensures err { OnErr result ((sources : List Source) → behind_front front.new (joined (top.new ∷ reverse below.new.items) sources)
         ≡ behind_front front.old (joined (top.old ∷ reverse below.old.items) sources)) }
 {

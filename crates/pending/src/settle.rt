@@ -1,7 +1,7 @@
 //! Levels that are used up go, and arguments become levels, until a token or a source stands in front
 //! (`tex.web` 324, 357 and 359).
 ghost use Rattle.std.specs.Prelude.{◌≡◌, ◌∷◌, ◌<◌, reverse, IfOk, OnOk};
-ghost use Rattle.pending.specs.Levels.{SameItems, IsFront, state_of, weight_of};
+ghost use Rattle.pending.specs.Levels.{SameItems, IsFront, passed, state_of, weight_of};
 
 use crate::level::{Level, State, argument, list_level, pass, put_under, state_of};
 use crate::waiting::Waiting;
@@ -32,11 +32,12 @@ pub fn settle(top: &mut Level, below: &mut Vec<Level>) -> Result<Front, AllocErr
     }
 }
 
-/// Makes the argument in front a level of its own.
+/// Makes the argument in front a level of its own. A text of which nothing is left behind it gives its place to it.
 fn enter(top: &mut Level, below: &mut Vec<Level>, number: u8) -> Result<(), AllocError>
     requires { state_of top.old ≡ State.Argument number }
     ensures same { OnOk result (SameItems (top.old ∷ reverse below.old.items) (top.new ∷ reverse below.new.items)) }
     ensures less { OnOk result (weight_of (top.new ∷ reverse below.new.items) < weight_of (top.old ∷ reverse below.old.items)) }
+    ensures replaces { OnOk result (state_of (passed top.old) ≡ State.Used → below.new.items ≡ below.old.items) }
 {
     let Level::Body { arguments, .. } = top else {
         return Ok(());
