@@ -3,5 +3,6 @@
 //! source, `<F>` for that of a file, and `!` for the end of a run.
 
 mod files;
+mod limits;
 mod macros;
 mod reading;

@@ -1,28 +1,15 @@
-//! Texts of macros, and lists in lists.
-use super::reading::{Desk, all, list, nothing, show_next};
+//! Texts of macros, lists in lists, and tokens that are put back.
+use super::reading::{Call, show};
 use std::test::Fail;
 
 #[test]
 fn nine_arguments_take_their_places(rt: HostRuntime) -> Result<(), Fail> {
-    let mut desk = Desk::new(rt.alloc(), 99);
-    let mut pending = nothing(desk.alloc)?;
-    let mut arguments = Vec::new(desk.alloc);
-    for text in [
-        b"a".as_slice(),
-        b"bb".as_slice(),
-        b"".as_slice(),
-        b"d".as_slice(),
-        b"e".as_slice(),
-        b"f".as_slice(),
-        b"g".as_slice(),
-        b"h".as_slice(),
-        b"ij".as_slice(),
-    ] {
-        arguments.push(list(desk.alloc, text)?)?;
-    }
-    pending.push_macro(list(desk.alloc, b"x9y1z2233456789")?, arguments)?;
+    // the third is empty, and the second stands three times
+    let arguments = &["a", "bb", "", "d", "e", "f", "g", "h", "ij"];
+    let calls = [Call::Macro("x9y1z2233456789", arguments), Call::All];
+    let shown = show(rt.alloc(), "", calls.as_slice())?;
     assert_eq!(rt;
-        all(&mut desk, &mut pending)?.as_slice(),
+        shown.text.as_slice(),
         b"xijyazbbbbdefghij[par]<S>".as_slice()
     );
     Ok(())
@@ -30,18 +17,46 @@ fn nine_arguments_take_their_places(rt: HostRuntime) -> Result<(), Fail> {
 
 #[test]
 fn a_list_in_a_list_in_a_list(rt: HostRuntime) -> Result<(), Fail> {
-    let mut desk = Desk::new(rt.alloc(), 99);
-    let mut pending = nothing(desk.alloc)?;
-    let mut text = Vec::new(desk.alloc);
-    pending.push_list(list(desk.alloc, b"ad")?)?;
-    let _ = show_next(&mut desk, &mut pending, &mut text)?;
-    pending.push_list(list(desk.alloc, b"bc")?)?;
-    let _ = show_next(&mut desk, &mut pending, &mut text)?;
-    pending.push_list(list(desk.alloc, b"xy")?)?;
-    assert_eq!(rt; text.as_slice(), b"ab".as_slice());
-    assert_eq!(rt;
-        all(&mut desk, &mut pending)?.as_slice(),
-        b"xycd[par]<S>".as_slice()
-    );
+    let calls = [
+        Call::List("ad"),
+        Call::Next,
+        Call::List("bc"),
+        Call::Next,
+        Call::List("xy"),
+        Call::All,
+    ];
+    let shown = show(rt.alloc(), "", calls.as_slice())?;
+    assert_eq!(rt; shown.text.as_slice(), b"abxycd[par]<S>".as_slice());
+    Ok(())
+}
+
+#[test]
+fn tokens_that_are_put_back_keep_their_flags(rt: HostRuntime) -> Result<(), Fail> {
+    let calls = [
+        Call::List("z"),
+        Call::Back {
+            byte: b'c',
+            noexpand: false,
+            paid: false,
+        },
+        Call::Back {
+            byte: b'b',
+            noexpand: true,
+            paid: true,
+        },
+        Call::Back {
+            byte: b'a',
+            noexpand: false,
+            paid: true,
+        },
+        Call::Next,
+        Call::Next,
+        Call::Next,
+        Call::Next,
+    ];
+    let shown = show(rt.alloc(), "", calls.as_slice())?;
+    assert_eq!(rt; shown.text.as_slice(), b"a~bcz".as_slice());
+    // the steps of c and z
+    assert_eq!(rt; shown.steps, 2);
     Ok(())
 }

@@ -1,4 +1,4 @@
-//! What the tests read with, and tokens that are put back.
+//! Calls that are worked through, and what they show.
 use crate::{Event, Pending};
 use std::alloc::Global;
 use std::test::Fail;
@@ -37,7 +37,7 @@ impl Desk {
 }
 
 /// What comes next, as text, at the end of `text`. Whether more may come.
-pub fn show_next(desk: &mut Desk, pending: &mut Pending, text: &mut Vec<u8>) -> Result<bool, Fail> {
+fn show_next(desk: &mut Desk, pending: &mut Pending, text: &mut Vec<u8>) -> Result<bool, Fail> {
     match desk.next(pending) {
         Ok(Event::Token { token, noexpand }) => {
             if noexpand {
@@ -78,56 +78,131 @@ fn show_token(token: Token, desk: &Desk, text: &mut Vec<u8>) -> Result<(), Fail>
 }
 
 /// All that comes next, at most 99 things.
-pub fn all(desk: &mut Desk, pending: &mut Pending) -> Result<Vec<u8>, Fail> {
-    let mut text = Vec::new(desk.alloc);
+fn show_all(desk: &mut Desk, pending: &mut Pending, text: &mut Vec<u8>) -> Result<(), Fail> {
     for _ in 0..99 {
-        if !show_next(desk, pending, &mut text)? {
+        if !show_next(desk, pending, text)? {
             break;
         }
     }
-    Ok(text)
+    Ok(())
 }
 
-pub fn letter(byte: u8) -> Token {
+/// A call on what is still to be read.
+#[derive(Clone, Copy, Debug)]
+pub enum Call {
+    List(&'static str),
+    /// The text of a macro with its arguments.
+    Macro(&'static str, &'static [&'static str]),
+    /// A token is put back, with its two flags.
+    Back {
+        byte: u8,
+        noexpand: bool,
+        paid: bool,
+    },
+    File(&'static str),
+    Pseudo(&'static str, i32),
+    EndInput,
+    BeginBehindName,
+    /// What comes next is shown, or all of it.
+    Next,
+    All,
+}
+
+/// What calls have shown, and what is told behind them.
+#[derive(Drop)]
+pub struct Shown {
+    pub text: Vec<u8>,
+    pub steps: u64,
+    pub files: u32,
+    pub line: u32,
+}
+
+/// What these calls show, on this first line and with 99 steps.
+pub fn show(alloc: Global, first_line: &str, calls: &[Call]) -> Result<Shown, Fail> {
+    let mut desk = Desk::new(alloc, 99);
+    let mut pending = Pending::new(alloc, bytes(alloc, first_line)?);
+    let mut text = Vec::new(alloc);
+    for call in calls {
+        make(*call, &mut desk, &mut pending, &mut text)?;
+    }
+    Ok(Shown {
+        text,
+        steps: desk.budget.used(),
+        files: pending.files(),
+        line: pending.line(),
+    })
+}
+
+fn make(
+    call: Call,
+    desk: &mut Desk,
+    pending: &mut Pending,
+    text: &mut Vec<u8>,
+) -> Result<(), Fail> {
+    match call {
+        Call::Next => {
+            let _ = show_next(desk, pending, text)?;
+            Ok(())
+        }
+        Call::All => show_all(desk, pending, text),
+        _ => change(call, desk, pending),
+    }
+}
+
+fn change(call: Call, desk: &mut Desk, pending: &mut Pending) -> Result<(), Fail> {
+    match call {
+        Call::List(letters) => Ok(pending.push_list(list(desk.alloc, letters)?)?),
+        Call::Macro(body, texts) => push_macro(desk.alloc, pending, body, texts),
+        Call::Back {
+            byte,
+            noexpand,
+            paid,
+        } => Ok(pending.back(letter(byte), noexpand, paid)?),
+        Call::File(text) => Ok(pending.push_file(bytes(desk.alloc, text)?, -1, &mut desk.budget)?),
+        Call::Pseudo(text, newline) => Ok(pending.push_pseudo(bytes(desk.alloc, text)?, newline)?),
+        Call::EndInput => {
+            pending.end_input();
+            Ok(())
+        }
+        Call::BeginBehindName => Ok(pending.begin_behind_name(13, &mut desk.budget)?),
+        _ => Ok(()),
+    }
+}
+
+fn push_macro(
+    alloc: Global,
+    pending: &mut Pending,
+    body: &str,
+    texts: &[&str],
+) -> Result<(), Fail> {
+    let mut arguments = Vec::new(alloc);
+    for text in texts {
+        arguments.push(list(alloc, text)?)?;
+    }
+    Ok(pending.push_macro(list(alloc, body)?, arguments)?)
+}
+
+fn letter(byte: u8) -> Token {
     Token::Char { cat: 11, byte }
 }
 
-pub fn bytes(alloc: Global, text: &[u8]) -> Result<Vec<u8>, Fail> {
-    Ok(Vec::from_slice(alloc, text)?)
+pub fn bytes(alloc: Global, text: &str) -> Result<Vec<u8>, Fail> {
+    Ok(Vec::from_slice(alloc, text.as_bytes())?)
 }
 
 /// A list of letters, in which a digit stands for an argument.
-pub fn list(alloc: Global, text: &[u8]) -> Result<TokenList, Fail> {
+fn list(alloc: Global, text: &str) -> Result<TokenList, Fail> {
     let mut tokens = Vec::new(alloc);
-    for byte in text {
-        tokens.push(if *byte >= 49 && *byte <= 57 {
-            Token::Arg(*byte - 48)
-        } else {
-            letter(*byte)
-        })?;
+    for byte in text.as_bytes() {
+        tokens.push(token_of(*byte))?;
     }
     Ok(TokenList::from_slice(alloc, tokens.as_slice())?)
 }
 
-/// Nothing but a first line of no bytes, which is read already.
-pub fn nothing(alloc: Global) -> Result<Pending, Fail> {
-    Ok(Pending::new(alloc, Vec::new(alloc)))
-}
-
-#[test]
-fn tokens_that_are_put_back_keep_their_flags(rt: HostRuntime) -> Result<(), Fail> {
-    let mut desk = Desk::new(rt.alloc(), 99);
-    let mut pending = nothing(desk.alloc)?;
-    pending.push_list(list(desk.alloc, b"z")?)?;
-    pending.back(letter(b'c'), false, false)?;
-    pending.back(letter(b'b'), true, true)?;
-    pending.back(letter(b'a'), false, true)?;
-    let mut text = Vec::new(desk.alloc);
-    for _ in 0..4 {
-        let _ = show_next(&mut desk, &mut pending, &mut text)?;
+fn token_of(byte: u8) -> Token {
+    if byte >= b'1' && byte <= b'9' {
+        Token::Arg(byte - b'0')
+    } else {
+        letter(byte)
     }
-    assert_eq!(rt; text.as_slice(), b"a~bcz".as_slice());
-    // the steps of c and z
-    assert_eq!(rt; desk.budget.used(), 2);
-    Ok(())
 }
