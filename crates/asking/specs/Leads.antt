@@ -10,21 +10,21 @@ use Rattle.asking.specs.Asked.{walk_two, walk_none, at_first, at_then, cut_later
 use Rattle.asking.specs.Loops.{at_most, go_on, rounds}
 
 -- what follows from what is told
-tell_map : (o : Outside) (P Q : Type 0) → (P → Q) → Told o P → Told o Q
+pub tell_map : (o : Outside) (P Q : Type 0) → (P → Q) → Told o P → Told o Q
 tell_map o P Q f = at o.tells
   where
     at : (b : Bool) → cond b P (Unit {0}) → cond b Q (Unit {0})
     at true h = f h
     at false h = tt
 
-tell_two : (o : Outside) (P Q R : Type 0) → (P → Q → R) → Told o P → Told o Q → Told o R
+pub tell_two : (o : Outside) (P Q R : Type 0) → (P → Q → R) → Told o P → Told o Q → Told o R
 tell_two o P Q R f = at o.tells
   where
     at : (b : Bool) → cond b P (Unit {0}) → cond b Q (Unit {0}) → cond b R (Unit {0})
     at true h g = f h g
     at false h g = tt
 
-told : (o : Outside) (P : Type 0) → P → Told o P
+pub told : (o : Outside) (P : Type 0) → P → Told o P
 told o P h = at o.tells
   where
     at : (b : Bool) → cond b P (Unit {0})
@@ -138,53 +138,56 @@ pub record Leads {S X : Type 0} (o : Outside) (work : S → ℕ) (once : X → S
   pub from : (new : Seen) (result : Result X Stop) (t : S) → DoesBeside o now new result t (at_most once times x s)
       → DoesBeside o old new result t (rounds work once x₀ first)
 
-module _ {S X : Type 0} (o : Outside) (work : S → ℕ) (once : X → S → Meant S (Bool × X)) (old : Seen) (x₀ : X) (first : S) where
+-- where the next time goes on to
+next : {S X : Type 0} (o : Outside) (once : X → S → Meant S (Bool × X)) (now new : Seen) (x y : X) (s t : S) (more : Bool) (rest : X → S → Meant S X)
+    → DoesBeside o now new (Ok (more, y)) t (once x s) → (end : Seen) (result : Result X Stop) (u : S)
+    → DoesBeside o new end result u (go_on rest ((more, y), t)) → DoesBeside o now end result u (once x s >>= go_on rest)
+next o once now new x y s t more rest h end result u g = does_then o now new (once x s) (go_on rest) end (more, y) t u result h g
+
+-- what finishing in so many times comes to, finishing from the start comes to
+abbrev Finishes : {S X : Type 0} → Outside → (S → ℕ) → (X → S → Meant S (Bool × X)) → Seen → Seen → X → S → X → S → ℕ → Type 0
+Finishes {S} {X} o work once old now x₀ first x s times = (end : Seen) (result : Result X Stop) (u : S)
+    → DoesBeside o now end result u (at_most once times x s) → DoesBeside o old end result u (rounds work once x₀ first)
+
+-- all that these laws speak of is read off the loop's record
+module _ {S X : Type 0} {o : Outside} {work : S → ℕ} {once : X → S → Meant S (Bool × X)} {old : Seen} {x₀ : X} {first : S} where
   pub leads_start : Leads o work once old old x₀ first x₀ first
   leads_start = record { less = omega arith; times = suc (work first); enough = omega arith; from = λ new result t h. h }
 
-  -- where the next time goes on to
-  next : (now new : Seen) (x y : X) (s t : S) (more : Bool) (times : ℕ) (rest : X → S → Meant S X)
-      → DoesBeside o now new (Ok (more, y)) t (once x s) → (end : Seen) (result : Result X Stop) (u : S)
-      → DoesBeside o new end result u (go_on rest ((more, y), t)) → DoesBeside o now end result u (once x s >>= go_on rest)
-  next now new x y s t more times rest h end result u g = does_then o now new (once x s) (go_on rest) end (more, y) t u result h g
+  module _ {now : Seen} {x : X} {s : S} where
+    -- once more
+    pub leads_more : (new : Seen) (y : X) (t : S) → Leads o work once old now x₀ first x s → DoesBeside o now new (Ok (true, y)) t (once x s)
+        → work t < work s → Leads o work once old new x₀ first y t
+    unfolding at_most
+    leads_more new y t l h less = at l.times l.enough l.from
+      where
+        at : (times : ℕ) → work s < times → Finishes o work once old now x₀ first x s times → Leads o work once old new x₀ first y t
+        at zero enough from = absurd (omega (arith, enough))
+        at (suc times) enough from = record {
+          less = let before = l.less in omega (arith, less, before);
+          times = times;
+          enough = omega (arith, less, enough);
+          from = λ end result u g. from end result u (next o once now new x y s t true (at_most once times) h end result u g);
+        }
 
-  -- once more
-  pub leads_more : (now new : Seen) (x y : X) (s t : S) → Leads o work once old now x₀ first x s
-      → DoesBeside o now new (Ok (true, y)) t (once x s) → work t < work s → Leads o work once old new x₀ first y t
-  unfolding at_most
-  leads_more now new x y s t l h less = at l.times l.enough l.from
-    where
-      at : (times : ℕ) → work s < times
-          → ((end : Seen) (result : Result X Stop) (u : S) → DoesBeside o now end result u (at_most once times x s) → DoesBeside o old end result u (rounds work once x₀ first))
-          → Leads o work once old new x₀ first y t
-      at zero enough from = absurd (omega (arith, enough))
-      at (suc times) enough from = record {
-        less = let before = l.less in omega (arith, less, before);
-        times = times;
-        enough = omega (arith, less, enough);
-        from = λ end result u g. from end result u (next now new x y s t true times (at_most once times) h end result u g);
-      }
+    -- enough
+    pub leads_enough : (new : Seen) (y : X) (t : S) → Leads o work once old now x₀ first x s → DoesBeside o now new (Ok (false, y)) t (once x s)
+        → DoesBeside o old new (Ok y) t (rounds work once x₀ first)
+    unfolding at_most
+    leads_enough new y t l h = at l.times l.enough l.from
+      where
+        at : (times : ℕ) → work s < times → Finishes o work once old now x₀ first x s times → DoesBeside o old new (Ok y) t (rounds work once x₀ first)
+        at zero enough from = absurd (omega (arith, enough))
+        at (suc times) enough from = from new (Ok y) t (next o once now new x y s t false (at_most once times) h new (Ok y) t (does_still o new y t))
 
-  -- enough
-  pub leads_enough : (now new : Seen) (x y : X) (s t : S) → Leads o work once old now x₀ first x s
-      → DoesBeside o now new (Ok (false, y)) t (once x s) → DoesBeside o old new (Ok y) t (rounds work once x₀ first)
-  unfolding at_most
-  leads_enough now new x y s t l h = at l.times l.enough l.from
-    where
-      at : (times : ℕ) → work s < times
-          → ((end : Seen) (result : Result X Stop) (u : S) → DoesBeside o now end result u (at_most once times x s) → DoesBeside o old end result u (rounds work once x₀ first))
-          → DoesBeside o old new (Ok y) t (rounds work once x₀ first)
-      at zero enough from = absurd (omega (arith, enough))
-      at (suc times) enough from = from new (Ok y) t (next now new x y s t false times (at_most once times) h new (Ok y) t (does_still o new y t))
+    -- the end of the run
+    pub leads_end : (new : Seen) (t : S) (stop : Stop) → Leads o work once old now x₀ first x s → DoesBeside {A = Bool × X} o now new (Err stop) t (once x s)
+        → DoesBeside {A = X} o old new (Err stop) t (rounds work once x₀ first)
+    unfolding at_most
+    leads_end new t stop l h = at l.times l.enough l.from
+      where
+        at : (times : ℕ) → work s < times → Finishes o work once old now x₀ first x s times → DoesBeside {A = X} o old new (Err stop) t (rounds work once x₀ first)
+        at zero enough from = absurd (omega (arith, enough))
+        at (suc times) enough from = from new (Err stop) t (does_end o now new (once x s) (go_on (at_most once times)) t stop h)
 
-  -- the end of the run
-  pub leads_end : (now new : Seen) (x : X) (s t : S) (stop : Stop) → Leads o work once old now x₀ first x s
-      → DoesBeside {A = Bool × X} o now new (Err stop) t (once x s) → DoesBeside {A = X} o old new (Err stop) t (rounds work once x₀ first)
-  unfolding at_most
-  leads_end now new x s t stop l h = at l.times l.enough l.from
-    where
-      at : (times : ℕ) → work s < times
-          → ((end : Seen) (result : Result X Stop) (u : S) → DoesBeside o now end result u (at_most once times x s) → DoesBeside o old end result u (rounds work once x₀ first))
-          → DoesBeside {A = X} o old new (Err stop) t (rounds work once x₀ first)
-      at zero enough from = absurd (omega (arith, enough))
-      at (suc times) enough from = from new (Err stop) t (does_end o now new (once x s) (go_on (at_most once times)) t stop h)
+pub ruleset loops = (leads_start, leads_more, leads_enough, leads_end)

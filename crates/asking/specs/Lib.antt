@@ -8,3 +8,4 @@ pub mod Loops
 pub mod Example
 pub mod Leads
 pub mod Turns
+pub mod Laws

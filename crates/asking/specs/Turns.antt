@@ -26,8 +26,9 @@ is_over (Ok (false, s)) = true
 is_over (Err e) = true
 
 -- all turns, as a call makes them: so many as it took
-abbrev pub DoesTurns : {S : Type 0} → Outside → Seen → Seen → Result Bool Stop → S → (S → Meant S Bool) → S → Type 0
-DoesTurns o old new result s once first = (n : ℕ) × DoesBeside o old new result s (turns once n first)
+pub record DoesTurns {S : Type 0} (o : Outside) (old new : Seen) (result : Result Bool Stop) (s : S) (once : S → Meant S Bool) (first : S) : Type 0 where
+  pub times : ℕ
+  pub does : DoesBeside o old new result s (turns once times first)
 
 -- once the run is over, more turns mean the same
 abbrev pub OverLaw : {S : Type 0} → (S → Meant S Bool) → Type 0
@@ -70,14 +71,17 @@ module _ {S : Type 0} (once : S → Meant S Bool) where
       ∙ ap (λ (p : Place). is_prefix text p.shown) (walk_two m.asks (asks_after m.ends (one_more once) (walk m.asks place)) place)
       ∙ cut_later text (asks_after m.ends (one_more once) (walk m.asks place)) (walk m.asks place) (shown_law n more s place text h)
 
+module _ {S : Type 0} {once : S → Meant S Bool} {o : Outside} {old : Seen} {first : S} where
   -- no turn yet
-  pub turns_start : (o : Outside) (seen : Seen) (first : S) → DoesTurns o seen seen (Ok true) first once first
+  pub turns_start : DoesTurns o old old (Ok true) first once first
   unfolding turns
-  turns_start o seen first = (zero, does_still o seen true first)
+  turns_start = record { times = zero; does = does_still o old true first }
 
   -- one more turn
-  pub turns_next : (o : Outside) (old mid new : Seen) (result : Result Bool Stop) (first s t : S) → DoesTurns o old mid (Ok true) s once first
+  pub turns_next : {mid : Seen} {s : S} (new : Seen) (result : Result Bool Stop) (t : S) → DoesTurns o old mid (Ok true) s once first
       → DoesBeside o mid new result t (once s) → DoesTurns o old new result t once first
   unfolding turns
-  turns_next o old mid new result first s t h g =
-      (suc h.0, does_then o old mid (turns once h.0 first) (one_more once) new true s t result h.1 g)
+  turns_next {mid} {s} new result t h g =
+      record { times = suc h.times; does = does_then o old mid (turns once h.times first) (one_more once) new true s t result h.does g }
+
+pub ruleset turning = (turns_start, turns_next)

@@ -5,8 +5,6 @@ use Rattle.std.proofs.Common.{zero, suc, ◌∙◌, ap, sym, arith}
 use Rattle.tokens.specs.declared.stop.Stop.{Stop}
 use Rattle.tokens.specs.declared.stop.Stop.TheVariants.{Trouble, Capacity, Spent, ReadFault, WriteFault, OutOfMemory}
 use Rattle.asking.specs.Did.{Did, ◌>>=◌, Ended}
-use Rattle.asking.specs.Meaning.{Meant}
-use Rattle.asking.specs.Seen.{Outside, Seen, DoesBesideBy}
 
 -- what follows one time: the next time, or enough
 abbrev pub go_on : {S X : Type 0} → (X → S → Did S X) → (Bool × X) × S → Did S X
@@ -42,44 +40,36 @@ Ended-by ReadFault s t part whole f e = e
 Ended-by WriteFault s t part whole f e = e
 Ended-by OutOfMemory s t part whole f e = tt
 
-pub leads-start : {S X : Type 0} (work : S → ℕ) (once : X → S → Did S (Bool × X)) (x : X) (s : S) → Leads work once x s x s
-unfolding again
-leads-start work once x s = record { less = omega arith; times = work s; enough = omega arith; from = refl }
+-- all that these laws speak of is read off the record
+module _ {S X : Type 0} {work : S → ℕ} {once : X → S → Did S (Bool × X)} {start : X} {first : S} where
+  pub leads-start : Leads work once start first start first
+  unfolding again
+  leads-start = record { less = omega arith; times = work first; enough = omega arith; from = refl }
 
--- once more
-pub leads-more : {S X : Type 0} (work : S → ℕ) (once : X → S → Did S (Bool × X)) (start : X) (first : S) (x y : X) (s t : S)
-    → Leads work once start first x s → once x s ≡ Ok ((true, y), t) → work t < work s → Leads work once start first y t
-unfolding at_most
-leads-more {S} {X} work once start first x y s t l e less = at l.times l.enough l.from
-  where
-    at : (times : ℕ) → work s ≤ times → at_most once (suc times) x s ≡ again work once start first → Leads work once start first y t
-    at zero enough from = absurd (omega (arith, enough, less))
-    at (suc times) enough from = record {
-      less = omega (arith, l.less, less);
-      times = times;
-      enough = omega (arith, enough, less);
-      from = ap (λ d. d >>= go_on (at_most once (suc times))) (sym e) ∙ from;
-    }
+  module _ {x : X} {s : S} where
+    -- once more
+    pub leads-more : (y : X) (t : S) → Leads work once start first x s → once x s ≡ Ok ((true, y), t) → work t < work s → Leads work once start first y t
+    unfolding at_most
+    leads-more y t l e less = at l.times l.enough l.from
+      where
+        at : (times : ℕ) → work s ≤ times → at_most once (suc times) x s ≡ again work once start first → Leads work once start first y t
+        at zero enough from = absurd (omega (arith, enough, less))
+        at (suc times) enough from = record {
+          less = omega (arith, l.less, less);
+          times = times;
+          enough = omega (arith, enough, less);
+          from = ap (λ d. d >>= go_on (at_most once (suc times))) (sym e) ∙ from;
+        }
 
--- enough
-pub leads-enough : {S X : Type 0} (work : S → ℕ) (once : X → S → Did S (Bool × X)) (start : X) (first : S) (x y : X) (s t : S)
-    → Leads work once start first x s → once x s ≡ Ok ((false, y), t) → again work once start first ≡ Ok (y, t)
-unfolding at_most
-leads-enough work once start first x y s t l e = sym l.from ∙ ap (λ d. d >>= go_on (at_most once l.times)) e
+    -- enough
+    pub leads-enough : (y : X) (t : S) → Leads work once start first x s → once x s ≡ Ok ((false, y), t) → again work once start first ≡ Ok (y, t)
+    unfolding at_most
+    leads-enough y t l e = sym l.from ∙ ap (λ d. d >>= go_on (at_most once l.times)) e
 
--- the end of the run
-pub leads-end : {S X : Type 0} (work : S → ℕ) (once : X → S → Did S (Bool × X)) (start : X) (first : S) (x : X) (s t : S) (stop : Stop)
-    → Leads work once start first x s → Ended stop t (once x s) → Ended stop t (again work once start first)
-unfolding at_most
-leads-end work once start first x s t stop l e =
-    Ended-by stop t t (once x s) (again work once start first) (λ h. sym l.from ∙ ap (λ d. d >>= go_on (at_most once l.times)) h) e
+    -- the end of the run
+    pub leads-end : (t : S) (stop : Stop) → Leads work once start first x s → Ended stop t (once x s) → Ended stop t (again work once start first)
+    unfolding at_most
+    leads-end t stop l e =
+        Ended-by stop t t (once x s) (again work once start first) (λ h. sym l.from ∙ ap (λ d. d >>= go_on (at_most once l.times)) h) e
 
--- how an answer is seen means nothing to an end
-pub end_seen : {S A B C : Type 0} (view : B → A) (other : C → A) (o : Outside) (old new : Seen) (stop : Stop) (t : S) (m : Meant S A)
-    → DoesBesideBy view o old new (Err stop) t m → DoesBesideBy other o old new (Err stop) t m
-end_seen view other o old new (Trouble kind) t m d = d
-end_seen view other o old new (Capacity cap) t m d = d
-end_seen view other o old new Spent t m d = d
-end_seen view other o old new ReadFault t m d = d
-end_seen view other o old new WriteFault t m d = d
-end_seen view other o old new OutOfMemory t m d = d
+pub ruleset loops = (leads-start, leads-more, leads-enough, leads-end)

@@ -1,17 +1,18 @@
 -- The whole run: its beginning, turn after turn, and its ending. It is a function of the files outside, of the first
 -- line and of the number of turns; it is over where these turns are.
-use Rattle.std.specs.Prelude.{◌≡◌, ℕ, negsuc, Bool, true, false, not, ◌==◌, List, [], ◌∷◌, ◌++◌, Option, Some, is_some}
+use Rattle.std.specs.Prelude.{◌≡◌, ℕ, negsuc, Bool, true, false, not, ◌==◌, List, [], ◌∷◌, ◌++◌, Option, Some, Result, is_some}
 use Rattle.tokens.specs.Budget.{unused}
 use Rattle.tokens.specs.Categories.{initial_categories}
 use Rattle.tokens.specs.Primitives.{primitive_names}
+use Rattle.tokens.specs.declared.stop.Stop.{Stop}
 use Rattle.catcode_eye.specs.Lines.{source_lines}
 use Rattle.catcode_eye.specs.Outlook.{before_lines}
 use Rattle.world.specs.Calls.{WhereTold}
 use Rattle.world.specs.Output.{nothing_yet}
 use Rattle.world.specs.Told.{Told}
-use Rattle.asking.specs.Known.{counted_more, outside_of}
+use Rattle.asking.specs.Known.{counted_more, outside_of, seen_of, IsKnown}
 use Rattle.asking.specs.Meaning.{Place, Meaning}
-use Rattle.asking.specs.Seen.{Outside}
+use Rattle.asking.specs.Seen.{Outside, DoesBeside}
 use Rattle.asking.specs.Turns.{turns, OverLaw, ShownLaw}
 use Rattle.stomach.specs.declared.machine.Ended.{Ended}
 use Rattle.stomach.specs.declared.pending.Item.TheVariants.{From}
@@ -73,6 +74,16 @@ pub record IsRun (m : ℕ → Meaning State Bool) (given : ℕ) (ended : Ended) 
 abbrev pub RunsFrom : State → ℕ → Ended → Option Told → Option Told → ℕ → ℕ → Type 0
 RunsFrom first given ended old new reads reads_after =
     WhereTold (λ t u. IsRun (λ n. run (outside_of (Some t)) n first) given ended t u reads reads_after) old new
+
+-- one turn from a state over a world that told this before and tells this behind it: so many files were asked for, and
+-- nothing was done besides but to show text; and the turn went as its definition means, from a place where nothing was
+-- asked for and nothing shown, which says what was shown, which counts of failed calls rose, and which state is left
+pub record IsTurn (first : State) (result : Result Bool Stop) (left : State) (before after : Option Told) (reads reads_after writes writes_after : ℕ) : Type 0 where
+  pub fetches : ℕ
+  pub which : ℕ
+  pub known : IsKnown before after fetches
+  pub does : DoesBeside (outside_of before) (seen_of before before 0 reads writes which)
+      (seen_of before after fetches reads_after writes_after which) result left (turn (outside_of before) first)
 
 -- whether a world tells
 abbrev pub tells : Option Told → Bool

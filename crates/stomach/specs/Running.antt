@@ -2,8 +2,8 @@
 use Rattle.std.specs.Prelude.{◌≡◌, ℕ, Bool, false, Result, Ok, Err}
 use Rattle.tokens.specs.declared.stop.Stop.{Stop}
 use Rattle.asking.specs.Meaning.{Meant}
-use Rattle.asking.specs.Seen.{Outside, Seen, Told, DoesBeside}
-use Rattle.asking.specs.Turns.{turns}
+use Rattle.asking.specs.Seen.{Outside, Seen, Told}
+use Rattle.asking.specs.Turns.{turns, DoesTurns}
 use Rattle.stomach.specs.declared.ending.Exit.{Exit}
 use Rattle.stomach.specs.declared.state.State.{State}
 use Rattle.stomach.specs.Ending.{EndsBy}
@@ -15,7 +15,7 @@ over (Ok done) = Ok false
 over (Err stop) = Err stop
 
 abbrev pub DoesAll : Outside → Seen → Seen → Result (Unit {0}) Stop → State → (State → Meant State Bool) → State → Type 0
-DoesAll o old new result s once first = (n : ℕ) × DoesBeside o old new (over result) s (turns once n first)
+DoesAll o old new result s once first = DoesTurns o old new (over result) s once first
 
 -- the run: which counts of failed calls rose, and how it ended
 pub record Runs (o : Outside) (old new : Seen) (exit : Exit) (steps given : ℕ) (once : State → Meant State Bool) (first : State) : Type 0 where

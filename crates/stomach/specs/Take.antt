@@ -16,7 +16,7 @@ use Rattle.catcode_eye.specs.declared.seen.Seen.TheVariants.{Char as SeenChar, A
 use Rattle.catcode_eye.specs.Outlook.{Outlook, next_seen, next_line, with_line, with_sight, behind_word}
 use Rattle.catcode_eye.specs.Seen.{Sight, sight}
 use Rattle.catcode_eye.specs.declared.seen.State.{State}
-use Rattle.asking.specs.Did.{Did}
+use Rattle.asking.specs.Did.{Did, ◌>>=◌}
 
 -- what reading from one source looks at and changes
 pub record Looking : Type 0 where
@@ -53,15 +53,23 @@ as_token (Word text) r = named text r
 as_token Par r = named (codes "par") r
 as_token LineEnd r = Ok (None, r)
 
--- with the next line taken, what follows; where none is left, no token comes
-abbrev pub by_line : (Looking → Did Looking (Option Token)) → Looking → Result (Bool × Outlook) Stop → Did Looking (Option Token)
-by_line further r (Ok (true, eye)) = paid (record r { eye = eye }) further
-by_line further r (Ok (false, eye)) = Ok (None, record r { eye = eye })
-by_line further r (Err stop) = ended r stop
+-- the next line, with a step for it: whether there was one
+abbrev pub line_by : Looking → Result (Bool × Outlook) Stop → Did Looking Bool
+line_by r (Ok (true, eye)) = paid (record r { eye = eye }) (λ t. Ok (true, t))
+line_by r (Ok (false, eye)) = Ok (false, record r { eye = eye })
+line_by r (Err stop) = ended r stop
+
+unfoldable pub line_taken : ℤ → Looking → Did Looking Bool
+line_taken endline r = line_by r (next_line endline r.eye)
+
+-- behind a line that was taken, what follows; where none is left, no token comes
+abbrev pub behind_line : (Looking → Did Looking (Option Token)) → Bool × Looking → Did Looking (Option Token)
+behind_line further (true, r) = further r
+behind_line further (false, r) = Ok (None, r)
 
 -- by what is seen: at a line's end the next line is taken, and anything else is a token
 abbrev pub by_seen : ℤ → (Looking → Did Looking (Option Token)) → Looking → Result (Seen × Outlook) Stop → Did Looking (Option Token)
-by_seen endline further r (Ok (LineEnd, eye)) = by_line further (record r { eye = eye }) (next_line endline eye)
+by_seen endline further r (Ok (LineEnd, eye)) = line_taken endline (record r { eye = eye }) >>= behind_line further
 by_seen endline further r (Ok (SeenChar cat byte, eye)) = paid (record r { eye = eye }) (as_token (SeenChar cat byte))
 by_seen endline further r (Ok (SeenActive byte, eye)) = paid (record r { eye = eye }) (as_token (SeenActive byte))
 by_seen endline further r (Ok (Word text, eye)) = paid (record r { eye = eye }) (as_token (Word text))
@@ -78,22 +86,16 @@ unfoldable pub token_from : List ℕ → ℤ → Looking → Did Looking (Option
 token_from cats endline r = token_over cats endline r.eye.unread r
 
 -- the next line of a source alone
-abbrev pub first_line_by : Looking → Result (Bool × Outlook) Stop → Did Looking (Unit {0})
-first_line_by r (Ok (true, eye)) = paid (record r { eye = eye }) (λ t. Ok (tt, t))
-first_line_by r (Ok (false, eye)) = Ok (tt, record r { eye = eye })
-first_line_by r (Err stop) = ended r stop
-
 abbrev pub first_line : ℤ → Looking → Did Looking (Unit {0})
-first_line endline r = first_line_by r (next_line endline r.eye)
+first_line endline r = line_taken endline r >>= (λ d. Ok (tt, d.1))
 
 -- the next line of a source, as if a word stood in front of it
-abbrev pub line_behind_by : Looking → Result (Bool × Outlook) Stop → Did Looking (Unit {0})
-line_behind_by r (Ok (true, eye)) = paid (record r { eye = eye }) (λ t. Ok (tt, record t { eye = behind_word t.eye }))
-line_behind_by r (Ok (false, eye)) = Ok (tt, record r { eye = eye })
-line_behind_by r (Err stop) = ended r stop
+abbrev pub behind_name : Bool × Looking → Did Looking (Unit {0})
+behind_name (true, r) = Ok (tt, record r { eye = behind_word r.eye })
+behind_name (false, r) = Ok (tt, r)
 
 abbrev pub line_behind_word : ℤ → Looking → Did Looking (Unit {0})
-line_behind_word endline r = line_behind_by r (next_line endline r.eye)
+line_behind_word endline r = line_taken endline r >>= behind_name
 
 -- the token that stands for a glance other than a line's end, or the end of the run in its place
 abbrev pub glanced : Glance → List ℕ → Looking → Did Looking (Option Token)
@@ -121,18 +123,25 @@ token_cost (Some token) = 1
 
 -- ---- the law of taking from a source: what is seen decides, and behind a line's end it is taken from again
 
--- what follows a line's end, by whether the line is too long
-by_line-too_long : (cats : List ℕ) (endline : ℤ) (line : List ℕ) (lines : List (List ℕ)) (names : List (List ℕ)) (budget : Allowance) (eye : Outlook) (b : Bool)
-    → by_line (token_over cats endline lines) (looking eye names budget) (with_line endline line lines b)
-    ≡ by_line (token_from cats endline) (looking eye names budget) (with_line endline line lines b)
+-- what follows a line, by whether a step is left for it: the lines that are left are those of the eye
+behind_line-step : (cats : List ℕ) (endline : ℤ) (lines : List (List ℕ)) (rest : List ℕ) (state : State) (names : List (List ℕ)) (budget : Allowance) (none : Looking) (spent : Bool)
+    → let line : Did Looking Bool = if spent then Err (Spent, none) else Ok (true, looking (record { unread = lines; rest = rest; state = state }) names budget) in
+    (line >>= behind_line (token_over cats endline lines)) ≡ (line >>= behind_line (token_from cats endline))
 unfolding token_from
-by_line-too_long cats endline line lines names budget eye true = refl
-by_line-too_long cats endline line lines names budget eye false = refl
+behind_line-step cats endline lines rest state names budget none true = refl
+behind_line-step cats endline lines rest state names budget none false = refl
+
+-- what follows a line's end, by whether the line is too long
+behind_line-too_long : (cats : List ℕ) (endline : ℤ) (line : List ℕ) (lines : List (List ℕ)) (names : List (List ℕ)) (budget : Allowance) (eye : Outlook) (b : Bool)
+    → let taken = line_by (looking eye names budget) (with_line endline line lines b) in
+    (taken >>= behind_line (token_over cats endline lines)) ≡ (taken >>= behind_line (token_from cats endline))
+behind_line-too_long cats endline line lines names budget eye true = refl
+behind_line-too_long cats endline line lines names budget eye false = behind_line-step cats endline lines _ _ names _ _ (is_spent budget)
 
 by_seen-further : (endline : ℤ) (f g : Looking → Did Looking (Option Token)) (r : Looking) (s : Result Sight Stop)
     → ((rest : List ℕ) (state : State) →
-    let eye : Outlook = record { unread = r.eye.unread; rest = rest; state = state } in
-    by_line f (record r { eye = eye }) (next_line endline eye) ≡ by_line g (record r { eye = eye }) (next_line endline eye))
+    let taken = line_taken endline (record r { eye = record { unread = r.eye.unread; rest = rest; state = state } }) in
+    (taken >>= behind_line f) ≡ (taken >>= behind_line g))
     → by_seen endline f r (with_sight r.eye s) ≡ by_seen endline g r (with_sight r.eye s)
 by_seen-further endline f g r (Err stop) same = refl
 by_seen-further endline f g r (Ok s) same = at s.seen s.rest s.state
@@ -149,12 +158,12 @@ by_seen-further endline f g r (Ok s) same = at s.seen s.rest s.state
 token_over-step : (cats : List ℕ) (endline : ℤ) (lines : List (List ℕ)) (rest : List ℕ) (state : State) (names : List (List ℕ)) (budget : Allowance)
     → let r = looking (record { unread = lines; rest = rest; state = state }) names budget in
     token_over cats endline lines r ≡ by_seen endline (token_from cats endline) r (next_seen cats r.eye)
-unfolding token_over
+unfolding token_over line_taken
 token_over-step cats endline [] rest state names budget =
     by_seen-further endline (λ t. Ok (None, t)) (token_from cats endline) _ (sight cats state rest) (λ rest state. refl)
 token_over-step cats endline (line ∷ lines) rest state names budget =
     by_seen-further endline (token_over cats endline lines) (token_from cats endline) _ (sight cats state rest)
-    (λ rest state. by_line-too_long cats endline line lines names budget _ (nat_lt 65535 (length line)))
+    (λ rest state. behind_line-too_long cats endline line lines names budget _ (nat_lt 65535 (length line)))
 
 pub token_from-step : (cats : List ℕ) (endline : ℤ) (r : Looking)
     → token_from cats endline r ≡ by_seen endline (token_from cats endline) r (next_seen cats r.eye)

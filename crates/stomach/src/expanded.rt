@@ -15,6 +15,7 @@ use tokens::{Stop, Token};
 impl State {
     /// Takes the next token of an operand. Files that `\input` names in front of it are opened, and the ends of files
     /// are shown.
+    #[tactic(auto, using(asking::specs::Leads::loops))]
     pub fn operand_token<L: Library>(
         &mut self,
         alloc: Global,

@@ -7,7 +7,7 @@ ghost use Rattle.stomach.specs.Turn.{turn};
 ghost use Rattle.stomach.specs.Work.{work};
 ghost use Rattle.stomach.specs.Ending.{exit_by, output_by, exit_after, cut_short};
 ghost use Rattle.stomach.specs.Faults.{ReadFaultWhere, WriteFaultWhere};
-ghost use Rattle.stomach.specs.Machine.{begins_with_name, beginning, new_run, RunsFrom, SameFiles, TurnsLaw, tells};
+ghost use Rattle.stomach.specs.Machine.{begins_with_name, beginning, new_run, IsTurn, RunsFrom, SameFiles, TurnsLaw, tells};
 ghost use Rattle.stomach.specs.Running.{DoesAll, Runs};
 
 use crate::ending::{Exit, exit_of};
@@ -70,6 +70,30 @@ impl Machine {
         })
     }
 
+    /// One turn. The answer is whether the run goes on: false comes exactly at its end. Behind false, or a
+    /// `Stop`, the machine is at its end, and is only to be dropped. What was printed since the last asking
+    /// isn't shown yet.
+    pub fn step<W: World>(&mut self, world: &mut W) -> Result<bool, Stop>
+        ensures does { IsTurn self.old.state result self.new.state (W.told world.old) (W.told world.new)
+            (W.read_faults world.old) (W.read_faults world.new) (W.write_faults world.old) (W.write_faults world.new) }
+        ensures less { OnOk result (work self.new.state < work self.old.state) }
+        ensures steps { self.new.steps ≡ self.old.steps }
+    {
+        self.step_from::<Brand, W>(world)
+    }
+
+    /// The same, by what the world told at the start.
+    fn step_from<F: Told, W: World>(&mut self, world: &mut W) -> Result<bool, Stop>
+        requires told { W.told world.old ≡ F.told }
+        ensures does { IsTurn self.old.state result self.new.state (W.told world.old) (W.told world.new)
+            (W.read_faults world.old) (W.read_faults world.new) (W.write_faults world.old) (W.write_faults world.new) }
+        ensures less { OnOk result (work self.new.state < work self.old.state) }
+        ensures steps { self.new.steps ≡ self.old.steps }
+    {
+        let mut library = Known::<F, &mut W>::new(world);
+        self.state.turn(self.alloc, &mut library)
+    }
+
     /// All turns, and the ending.
     pub fn run<W: World>(self, world: &mut W) -> Ended
         ensures runs { RunsFrom self.state self.steps result (W.told world.old) (W.told world.new) (W.read_faults world.old) (W.read_faults world.new) }
@@ -110,6 +134,7 @@ impl State {
     }
 
     /// All turns. Each leaves less work to be done.
+    #[tactic(auto, using(asking::specs::Turns::turning))]
     fn turns<L: Library>(&mut self, alloc: Global, library: &mut L) -> Result<(), Stop>
         ensures does { DoesAll L.outside (L.seen library.old) (L.seen library.new) result self.new (turn L.outside) self.old }
     {

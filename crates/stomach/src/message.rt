@@ -56,6 +56,7 @@ impl State {
     }
 
     /// Passes spaces and `\relax`, up to a left brace. Files that `\input` names are opened.
+    #[tactic(auto, using(asking::specs::Leads::loops))]
     fn left_brace<L: Library>(&mut self, alloc: Global, library: &mut L) -> Result<(), Stop>
         ensures does { DoesBeside L.outside (L.seen library.old) (L.seen library.new) result self.new (left_brace L.outside self.old) }
         ensures less { OnOk result (work self.new ≤ work self.old) }
@@ -112,6 +113,7 @@ impl State {
     }
 
     /// Takes the tokens up to the right brace of the text. Files that `\input` names are opened.
+    #[tactic(auto, using(asking::specs::Leads::loops))]
     fn balanced_text<L: Library>(
         &mut self,
         alloc: Global,

@@ -11,6 +11,7 @@ use tokens::{Stop, Text, Token};
 
 impl State {
     /// Reads a name: characters, up to a space or another token.
+    #[tactic(auto, using(crate::specs::Again::loops))]
     pub fn file_name(&mut self, alloc: Global) -> Result<Text, Stop>
         ensures does { Does result self.new (file_name self.old) }
         ensures less { OnOk result (work self.new ≤ work self.old) }

@@ -40,6 +40,7 @@ impl State {
     }
 
     /// Takes the next token, past the ends of files, each of which is shown.
+    #[tactic(auto, using(crate::specs::Again::loops))]
     pub fn next_token(&mut self) -> Result<Token, Stop>
         ensures does { Does result self.new (next_token self.old) }
         ensures less { OnOk result (work self.new + 3 ≤ work self.old) }

@@ -1,8 +1,8 @@
 //! A source of lines, and the tokens that come of it (The TeXbook, chapter 8).
-ghost use Rattle.std.specs.Prelude.{◌≡◌, ◌≤◌, ◌+◌, IfOk, OnOk};
+ghost use Rattle.std.specs.Prelude.{◌≡◌, ◌≤◌, ◌+◌, IfOk, OnOk, if◌then◌else◌};
 ghost use Rattle.catcode_eye.specs.Outlook.{Outlook};
 ghost use Rattle.asking.specs.Did.{Does, DoesBy, Ended};
-ghost use Rattle.stomach.specs.Take.{looking, glanced, named, token_from, first_line, line_behind_word, EndsUnpaid, token_cost};
+ghost use Rattle.stomach.specs.Take.{looking, glanced, named, line_taken, token_from, first_line, line_behind_word, EndsUnpaid, token_cost};
 
 use catcode_eye::{Eye, Glance};
 use tokens::{Budget, CatTable, Kind, NameTable, Stop, Token};
@@ -32,14 +32,10 @@ pub fn token_from(
     'lines: loop {
         let glance = eye.glance(categories, word);
         if let Glance::LineEnd = glance {
-            match eye.next_line(end_line) {
-                Ok(true) => {
-                    if !budget.spend() {
-                        return Err(Stop::Spent);
-                    }
-                }
+            match take_line(eye, end_line, names, budget) {
+                Ok(true) => {}
                 Ok(false) => return Ok(None),
-                Err(stop) => return Err(unpaid(budget, stop)),
+                Err(stop) => return Err(stop),
             }
         } else {
             return token_of(glance, word, names, budget);
@@ -56,6 +52,7 @@ fn token_of(
 ) -> Result<Option<Token>, Stop>
     ensures does { (eye : Outlook) → Does result (looking eye names.new budget.new)
         (glanced glance word.now (looking eye names.old budget.old)) }
+    ensures memory { glance ≡ Glance.OutOfMemory → result ≡ Err Stop.OutOfMemory }
     ensures less { IfOk result (λ token. budget.new.left + token_cost token ≤ budget.old.left) }
 {
     match glance {
@@ -76,6 +73,31 @@ fn token_of(
     }
 }
 
+/// Takes the next line, with a step for it. The answer is whether there was one.
+#[tactic(auto, using(asking::specs::Asked::asking), unfolding(crate::specs::Take::line_taken))]
+fn take_line(
+    eye: &mut Eye,
+    end_line: i32,
+    names: &NameTable,
+    budget: &mut Budget,
+) -> Result<bool, Stop>
+    ensures does { Does result (looking eye.new names.now budget.new)
+        (line_taken end_line (looking eye.old names.now budget.old)) }
+    ensures less { IfOk result (λ more. budget.new.left + (if more then 1 else 0) ≤ budget.old.left) }
+{
+    match eye.next_line(end_line) {
+        Ok(true) => {
+            if budget.spend() {
+                Ok(true)
+            } else {
+                Err(Stop::Spent)
+            }
+        }
+        Ok(false) => Ok(false),
+        Err(stop) => Err(unpaid(budget, stop)),
+    }
+}
+
 /// Takes the next line.
 pub fn first_line(
     eye: &mut Eye,
@@ -87,16 +109,9 @@ pub fn first_line(
         (first_line end_line (looking eye.old names.now budget.old)) }
     ensures less { OnOk result (budget.new.left ≤ budget.old.left) }
 {
-    match eye.next_line(end_line) {
-        Ok(true) => {
-            if budget.spend() {
-                Ok(())
-            } else {
-                Err(Stop::Spent)
-            }
-        }
-        Ok(false) => Ok(()),
-        Err(stop) => Err(unpaid(budget, stop)),
+    match take_line(eye, end_line, names, budget) {
+        Ok(_) => Ok(()),
+        Err(stop) => Err(stop),
     }
 }
 
@@ -111,16 +126,13 @@ pub fn line_behind_word(
         (line_behind_word end_line (looking eye.old names.now budget.old)) }
     ensures less { OnOk result (budget.new.left ≤ budget.old.left) }
 {
-    match eye.next_line(end_line) {
+    match take_line(eye, end_line, names, budget) {
         Ok(true) => {
-            if !budget.spend() {
-                return Err(Stop::Spent);
-            }
             eye.skip_blanks();
             Ok(())
         }
         Ok(false) => Ok(()),
-        Err(stop) => Err(unpaid(budget, stop)),
+        Err(stop) => Err(stop),
     }
 }
 

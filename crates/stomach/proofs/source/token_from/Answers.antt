@@ -1,49 +1,35 @@
-use Rattle.std.proofs.Common.{◌≡◌, ◌-◌, ℤ, Ok, Err, None, ap, arith, sym, ◌∙◌, subst}
-use Rattle.tokens.specs.Budget.{Allowance}
+use Rattle.std.proofs.Common.{◌+◌, ◌≤◌, true, false, Ok, Err, None, arith, sym, ◌∙◌}
 use Rattle.std.specs.Int.{w32}
 use Rattle.std.proofs.lemmas.Int.{to_z-of_z}
-use Rattle.tokens.specs.declared.stop.Stop.TheVariants.{Spent}
-use Rattle.asking.specs.Did.{Ended, Does}
+use Rattle.stomach.specs.Again.{Ended-by}
 use Rattle.stomach.specs.Take.{looking, token_from}
-use Rattle.stomach.proofs.Looking.{line_unpaid, line_paid, with_no_line, glance_does, line_refused}
+use Rattle.stomach.proofs.Looking.{by_line, glance_does, from_start}
 use Rattle.stomach.proofs.source.token_from.Goals as goal
-
-pub returns-then-not-spend-clause-does : goal.returns-then-not-spend-clause-does
-returns-then-not-spend-clause-does c =
-    let P : ℤ → Type 0 = λ z. token_from c.args.categories.now z (looking c.args.eye.now c.args.names.now c.args.budget.now) ≡ Err (Spent, looking c.next_line.new.self c.lines.names c.spend.new.self) in
-    subst P (to_z-of_z w32 c.args.end_line c.ranges.end_line)
-    (rw c.if-not-spend.ensures.after (sym c.lines.invariant.same
-    ∙ line_unpaid c.args.categories.now _ _ _ c.lines.names c.lines.budget c.next_line.new.self c.in-LineEnd.ensures.sees (cc (c.in-Ok-true.ensures.gives)) c.if-not-spend.ensures.taken))
 
 pub lines-preserved : goal.lines-preserved
 lines-preserved c = record {
-  same = rw c.if-not-spend.ensures.after (sym (line_paid c.args.categories.now _ _ _ c.lines.names c.lines.budget c.next_line.new.self c.in-LineEnd.ensures.sees (cc (c.in-Ok-true.ensures.gives)) c.if-not-spend.ensures.taken)
-      ∙ c.lines.invariant.same);
-  fewer =
-      let e : c.spend.new.self.left ≡ c.lines.budget.left - 1 = ap (λ (b : Allowance). b.left) c.if-not-spend.ensures.after in
-      omega (arith, e, c.lines.invariant.fewer);
+  same = sym (by_line c.args.categories.now _ _ c.glance-glance.new.self c.lines.names c.lines.budget (Ok (true, looking c.take_line.new.eye c.lines.names c.take_line.new.budget))
+      c.in-LineEnd.ensures.sees (rw c.in-Ok-true.field-0-test at c.in-Ok-true.ensures.does)) ∙ c.lines.invariant.same;
+  fewer = let less = rw c.in-Ok-true.field-0-test at c.in-Ok-true.ensures.less in omega (arith, less, c.lines.invariant.fewer);
 }
 
 pub returns-in-Ok-false-clause-does : goal.returns-in-Ok-false-clause-does
 returns-in-Ok-false-clause-does c =
-    let P : ℤ → Type 0 = λ z. token_from c.args.categories.now z (looking c.args.eye.now c.args.names.now c.args.budget.now) ≡ Ok (None, looking c.next_line.new.self c.lines.names c.lines.budget) in
-    subst P (to_z-of_z w32 c.args.end_line c.ranges.end_line)
-    (sym c.lines.invariant.same ∙ with_no_line _ _ _ _ _ _ c.next_line.new.self c.in-LineEnd.ensures.sees (cc (c.in-Ok-false.ensures.gives)))
+    from_start (Ok None) (looking c.take_line.new.eye c.lines.names c.take_line.new.budget) c.args.categories.now _ c.args.end_line _ _
+    (to_z-of_z w32 c.args.end_line c.ranges.end_line) c.lines.invariant.same
+    (by_line c.args.categories.now _ _ c.glance-glance.new.self c.lines.names c.lines.budget (Ok (false, looking c.take_line.new.eye c.lines.names c.take_line.new.budget))
+    c.in-LineEnd.ensures.sees (rw c.in-Ok-false.field-0-test at c.in-Ok-false.ensures.does))
 
 pub returns-in_default-clause-does : goal.returns-in_default-clause-does
 returns-in_default-clause-does c =
-    let P : ℤ → Type 0 = λ z. Does c.token_of.result (looking c.glance-glance.new.self c.token_of.new.names c.token_of.new.budget)
-    (token_from c.args.categories.now z (looking c.args.eye.now c.args.names.now c.args.budget.now)) in
-    subst P (to_z-of_z w32 c.args.end_line c.ranges.end_line)
-    (rw (← c.lines.invariant.same)
+    from_start c.token_of.result (looking c.glance-glance.new.self c.token_of.new.names c.token_of.new.budget) c.args.categories.now _ c.args.end_line _ _
+    (to_z-of_z w32 c.args.end_line c.ranges.end_line) c.lines.invariant.same
     (glance_does c.args.categories.now _ _ c.glance-glance.new.self c.lines.names c.lines.budget c.glance-glance.result c.glance-glance.new.name.items c.token_of.result _
-    c.in_default.not-LineEnd c.glance-glance.ensures.sees (rw c.deref.ensures.value at (c.token_of.ensures.does c.glance-glance.new.self))))
+    c.in_default.not-LineEnd c.token_of.ensures.memory c.glance-glance.ensures.sees (rw c.deref.ensures.value at (c.token_of.ensures.does c.glance-glance.new.self)))
 
 pub returns-in-Err-clause-does : goal.returns-in-Err-clause-does
 returns-in-Err-clause-does c =
-    let P : ℤ → Type 0 = λ z. Ended c.unpaid.result (looking c.next_line.new.self c.lines.names c.lines.budget)
-    (token_from c.args.categories.now z (looking c.args.eye.now c.args.names.now c.args.budget.now)) in
-    subst P (to_z-of_z w32 c.args.end_line c.ranges.end_line)
-    (rw (← c.lines.invariant.same)
-    (line_refused c.args.categories.now _ _ _ c.lines.names c.lines.budget c.in-Err.stop c.unpaid.result c.next_line.new.self
-    c.in-LineEnd.ensures.sees c.in-Err.ensures.ends c.unpaid.ensures c.in-Err.ensures.kept))
+    let t = looking c.take_line.new.eye c.lines.names c.take_line.new.budget in
+    from_start (Err c.in-Err.stop) t c.args.categories.now _ c.args.end_line _ _ (to_z-of_z w32 c.args.end_line c.ranges.end_line) c.lines.invariant.same
+    (Ended-by c.in-Err.stop t t _ _
+    (by_line c.args.categories.now _ _ c.glance-glance.new.self c.lines.names c.lines.budget (Err (c.in-Err.stop, t)) c.in-LineEnd.ensures.sees) c.in-Err.ensures.does)

@@ -1,4 +1,4 @@
-use Rattle.std.proofs.Common.{◌≡◌, ◌≤◌, length}
+use Rattle.std.proofs.Common.{◌≡◌, ◌≤◌}
 use Rattle.stomach.specs.Take.{looking, token_from}
 use Rattle.stomach.proofs.source.token_from.Given as goal
 
@@ -10,4 +10,4 @@ invariant-lines l = record {
 }
 
 abbrev pub decreases-lines : goal.decreases-lines
-decreases-lines l = length l.eye.unread
+decreases-lines l = l.budget.left
