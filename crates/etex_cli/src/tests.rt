@@ -7,6 +7,7 @@ use world::{HonestWorld, World, WorldError};
 
 mod faults;
 mod inputs;
+mod turns;
 
 /// The line that gives braces, `#` and `^` their categories.
 const LINE: &str = "\\catcode`\\{=1 \\catcode`\\}=2 \\catcode`\\#=6 \\catcode`\\^=7\n";
