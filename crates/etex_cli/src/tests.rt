@@ -7,6 +7,7 @@ use world::{HonestWorld, World, WorldError};
 
 mod faults;
 mod inputs;
+mod messages;
 mod turns;
 
 /// The line that gives braces, `#` and `^` their categories.
