@@ -1,0 +1,22 @@
+//! Nodes: what horizontal and vertical lists, boxes and pages are made of (The TeXbook, chapters 11, 12, 14, 15 and
+//! 21; `tex.web`, part 10). Dimensions are whole numbers of scaled points, sp.
+//!
+//! A list of nodes is a `Vec<Node>` while it is built, and an `Items<Node>` inside a node. `Items::from_vec` makes the
+//! one the other and copies nothing; `pop`, `push` and `append` of `Items` move nodes, whole trees with them.
+#![tactic(auto)]
+
+pub use boxes::{BoxNode, GlueSet};
+pub use discretionary::DiscNode;
+pub use ligature::LigNode;
+pub use node::{KernKind, Node};
+pub use page_material::{InsertNode, MarkNode};
+pub use spacing::{Leaders, SkipNode};
+pub use whatsit::Whatsit;
+
+mod boxes;
+mod discretionary;
+mod ligature;
+mod node;
+mod page_material;
+mod spacing;
+mod whatsit;

@@ -1,0 +1,29 @@
+//! What a list holds for the page that it comes to: marks and insertions (`tex.web`, sections 140 and 141).
+
+use crate::node::Node;
+use scaled::Glue;
+use sqlite_items::Items;
+use tokens::TokenList;
+
+/// A mark of a class (the e-TeX manual, section 3.5).
+#[derive(Debug, Drop)]
+pub struct MarkNode {
+    pub class: u16,
+    pub text: TokenList,
+}
+
+/// An insertion of a class. Dimensions are in sp.
+#[cycle(nodes)]
+#[derive(Debug, Drop)]
+pub struct InsertNode {
+    pub class: u8,
+    /// Height and depth of its list together.
+    pub size: i32,
+    /// The greatest depth of a part that it is split to.
+    pub max_depth: i32,
+    /// The glue at the top of what is left behind a split.
+    pub top: Glue,
+    /// The penalty where it is split over pages.
+    pub cost: i32,
+    pub list: Items<Node>,
+}
