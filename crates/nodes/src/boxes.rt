@@ -4,17 +4,16 @@ use crate::node::Node;
 use scaled::Order;
 use sqlite_items::Items;
 
-/// An hbox or a vbox with its list. Dimensions are in sp.
-#[cycle(nodes)]
+/// An hbox or a vbox with its list, of the type `L`. Dimensions are in sp.
 #[derive(Debug, Drop)]
-pub struct BoxNode {
+pub struct BoxNode<L = Items<Node>> {
     pub vertical: bool,
     pub width: i32,
     pub height: i32,
     pub depth: i32,
     /// By how much it is moved down in a horizontal list, or to the right in a vertical one.
     pub shift: i32,
-    pub list: Items<Node>,
+    pub list: L,
     pub set: GlueSet,
     /// 1 where no box stands in it, else 1 more than the nesting of its deepest box; 65535 also stands for more.
     pub nesting: u16,

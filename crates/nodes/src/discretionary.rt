@@ -3,14 +3,13 @@
 use crate::node::Node;
 use sqlite_items::Items;
 
-/// A place where a line can break.
-#[cycle(nodes)]
+/// A place where a line can break. Lists have the type `L`.
 #[derive(Debug, Drop)]
-pub struct DiscNode {
+pub struct DiscNode<L = Items<Node>> {
     /// What stands in front of the break.
-    pub pre: Items<Node>,
+    pub pre: L,
     /// What stands behind the break.
-    pub post: Items<Node>,
+    pub post: L,
     /// How many of the nodes behind it go if the line breaks here; where fewer follow, all of them.
     pub replace: u8,
 }

@@ -3,6 +3,9 @@
 //!
 //! A list of nodes is a `Vec<Node>` while it is built, and an `Items<Node>` inside a node. `Items::from_vec` makes the
 //! one the other and copies nothing; `pop`, `push` and `append` of `Items` move nodes, whole trees with them.
+//!
+//! The parts of a node that hold nodes are generic in these, so that contracts see each as a plain record of its
+//! fields: a `BoxNode` is a `BoxNode<Items<Node>>`.
 #![tactic(auto)]
 
 pub use boxes::{BoxNode, GlueSet};

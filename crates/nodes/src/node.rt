@@ -9,7 +9,6 @@ use crate::whatsit::Whatsit;
 use sqlite_items::{Boxed, Items};
 
 /// One item of a list. Large kinds stand behind a box, so that a node is four words and a character costs no heap.
-#[cycle(nodes)]
 #[derive(Debug, Drop)]
 pub enum Node {
     /// A character of a font, with its metrics in sp (`tex.web`, section 134).

@@ -5,17 +5,16 @@ use scaled::Glue;
 use sqlite_items::Items;
 use tokens::TokenList;
 
-/// A mark of a class (the e-TeX manual, section 3.5).
+/// A mark of a class (the e-TeX manual, on marks).
 #[derive(Debug, Drop)]
 pub struct MarkNode {
     pub class: u16,
     pub text: TokenList,
 }
 
-/// An insertion of a class. Dimensions are in sp.
-#[cycle(nodes)]
+/// An insertion of a class, with its list, of the type `L`. Dimensions are in sp.
 #[derive(Debug, Drop)]
-pub struct InsertNode {
+pub struct InsertNode<L = Items<Node>> {
     pub class: u8,
     /// Height and depth of its list together.
     pub size: i32,
@@ -25,5 +24,5 @@ pub struct InsertNode {
     pub top: Glue,
     /// The penalty where it is split over pages.
     pub cost: i32,
-    pub list: Items<Node>,
+    pub list: L,
 }
