@@ -1,5 +1,7 @@
 //! Boxes and the setting of their glue (`tex.web`, sections 135 to 137).
 
+ghost use Rattle.std.specs.Prelude.{◌≡◌};
+
 use crate::node::Node;
 use scaled::Order;
 use sqlite_items::Items;
@@ -19,6 +21,25 @@ pub struct BoxNode<L = Items<Node>> {
     pub nesting: u16,
     /// How many nodes are in its list, with all nodes inside them; 4294967295 also stands for more.
     pub count: u32,
+}
+
+impl BoxNode {
+    /// The same box with another list.
+    pub(crate) fn with_list(&self, list: Items<Node>) -> BoxNode
+        ensures { result ≡ record self.now { list = list } }
+    {
+        BoxNode {
+            vertical: self.vertical,
+            width: self.width,
+            height: self.height,
+            depth: self.depth,
+            shift: self.shift,
+            list,
+            set: self.set,
+            nesting: self.nesting,
+            count: self.count,
+        }
+    }
 }
 
 /// How the glue of a box is set: glue whose stretch or shrink is of the order grows, or diminishes, by its share of

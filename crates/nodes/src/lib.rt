@@ -9,16 +9,20 @@
 #![tactic(auto)]
 
 pub use boxes::{BoxNode, GlueSet};
+pub use copying::copy_list;
 pub use discretionary::DiscNode;
 pub use ligature::LigNode;
+pub use measuring::measure;
 pub use node::{KernKind, Node};
 pub use page_material::{InsertNode, MarkNode};
 pub use spacing::{Leaders, SkipNode};
 pub use whatsit::Whatsit;
 
 mod boxes;
+mod copying;
 mod discretionary;
 mod ligature;
+mod measuring;
 mod node;
 mod page_material;
 mod spacing;

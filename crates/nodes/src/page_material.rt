@@ -1,5 +1,7 @@
 //! What a list holds for the page that it comes to: marks and insertions (`tex.web`, sections 140 and 141).
 
+ghost use Rattle.std.specs.Prelude.{◌≡◌};
+
 use crate::node::Node;
 use scaled::Glue;
 use sqlite_items::Items;
@@ -25,4 +27,20 @@ pub struct InsertNode<L = Items<Node>> {
     /// The penalty where it is split over pages.
     pub cost: i32,
     pub list: L,
+}
+
+impl InsertNode {
+    /// The same insertion with another list.
+    pub(crate) fn with_list(&self, list: Items<Node>) -> InsertNode
+        ensures { result ≡ record self.now { list = list } }
+    {
+        InsertNode {
+            class: self.class,
+            size: self.size,
+            max_depth: self.max_depth,
+            top: self.top,
+            cost: self.cost,
+            list,
+        }
+    }
 }
