@@ -2,7 +2,7 @@
 -- nodes themselves, or what each of them gives.
 -- From: tex.web, part 10 (sections 133 to 160) and section 1341.
 use Rattle.std.specs.Prelude.{◌≡◌, List, [], ◌∷◌, ◌++◌, map, Option, Some, None, refl}
-use Rattle.std.specs.Option.{option_map, IfSome}
+use Rattle.std.specs.Option.{option_map}
 use Rattle.std.proofs.Common.{sym}
 use Rattle.std.proofs.lemmas.List.{map-append}
 use Rattle.scaled.specs.declared.spacing.Glue.{Glue}
@@ -62,13 +62,47 @@ inside_box (Node-F.Insert insert) b is = cc
 inside_box (Node-F.Adjust list) b is = cc
 inside_box (Node-F.Whatsit whatsit) b is = cc
 
+-- a box with another list
+abbrev pub with_list : {A B : Type 0} → BoxNode (List A) → List B → BoxNode (List B)
+with_list b list = record {
+  vertical = b.vertical;
+  width = b.width;
+  height = b.height;
+  depth = b.depth;
+  shift = b.shift;
+  list = list;
+  set = b.set;
+  nesting = b.nesting;
+  count = b.count;
+}
+
+-- a box whose inner nodes are replaced
+abbrev pub box_map : {A B : Type 0} → (A → B) → BoxNode (List A) → BoxNode (List B)
+box_map f b = with_list b (map f b.list)
+
+-- the box that a node is whose inner nodes are replaced
+pub box_of-map : {A B : Type 0} (f : A → B) (node : Node-F A) →
+    box_of (map-Node A B f node) ≡ option_map (box_map f) (box_of node)
+box_of-map f (Node-F.Char font byte width height depth italic) = refl
+box_of-map f (Node-F.Lig lig) = refl
+box_of-map f (Node-F.Boxed b) = refl
+box_of-map f (Node-F.Rule width height depth) = refl
+box_of-map f (Node-F.Skip skip) = refl
+box_of-map f (Node-F.Kern width how) = refl
+box_of-map f (Node-F.Penalty penalty) = refl
+box_of-map f (Node-F.Disc disc) = refl
+box_of-map f (Node-F.Mark mark) = refl
+box_of-map f (Node-F.Insert insert) = refl
+box_of-map f (Node-F.Adjust list) = refl
+box_of-map f (Node-F.Whatsit whatsit) = refl
+
 skip_map : {A B : Type 0} (f : A → B) (glue : Glue) (name : _) (leaders : Option (Leaders A)) →
     inside (map-Node A B f (Node-F.Skip (record { glue = glue; name = name; leaders = leaders })))
     ≡ map f (item_of leaders)
 skip_map f glue name None = refl
 skip_map f glue name (Some leaders) = refl
 
--- what stands in a node whose inner nodes were replaced
+-- what stands in a node whose inner nodes are replaced
 pub inside-map : {A B : Type 0} (f : A → B) (node : Node-F A) → inside (map-Node A B f node) ≡ map f (inside node)
 inside-map f (Node-F.Char font byte width height depth italic) = refl
 inside-map f (Node-F.Lig lig) = refl

@@ -11,19 +11,23 @@
 pub use boxes::{BoxNode, GlueSet};
 pub use copying::copy_list;
 pub use discretionary::DiscNode;
+pub use laws::told_lists_are_measured;
 pub use ligature::LigNode;
 pub use measuring::measure;
 pub use node::{KernKind, Node};
 pub use page_material::{InsertNode, MarkNode};
 pub use spacing::{Leaders, SkipNode};
+pub use taking::into_vec;
 pub use whatsit::Whatsit;
 
 mod boxes;
 mod copying;
 mod discretionary;
+mod laws;
 mod ligature;
 mod measuring;
 mod node;
 mod page_material;
 mod spacing;
+mod taking;
 mod whatsit;

@@ -3,9 +3,10 @@ use Rattle.nodes.proofs.MeasureLaws.{nesting_of-next, count_of-next, node_nestin
 use Rattle.nodes.proofs.measuring.+measuring.Goals as goal
 
 pub measure-loop-i-preserved : goal.measure-loop-i-preserved
-measure-loop-i-preserved t c =
-    (omega (arith, nesting_of-next c.args.list.now c.loop-i.i c.index-list-i.result c.loop-i-test.true c.index-list-i.is),
-    omega (arith, count_of-next c.args.list.now c.loop-i.i c.index-list-i.result c.loop-i-test.true c.index-list-i.is))
+measure-loop-i-preserved t c = (
+  omega (arith, nesting_of-next c.args.list.now c.loop-i.i c.index-list-i.result c.loop-i-test.true c.index-list-i.is),
+  omega (arith, count_of-next c.args.list.now c.loop-i.i c.index-list-i.result c.loop-i-test.true c.index-list-i.is),
+)
 
 pub measure_node-returns-in-Disc-clause-nesting : goal.measure_node-returns-in-Disc-clause-nesting
 measure_node-returns-in-Disc-clause-nesting t c = cc (node_nesting-Disc c.in-Disc.disc)
