@@ -1,3 +1,4 @@
 pub mod Inside
 pub mod PackingMeasure
 pub mod PackingTree
+pub mod PackingTold

@@ -11,7 +11,7 @@
 pub use boxes::{BoxNode, GlueSet};
 pub use copying::copy_list;
 pub use discretionary::DiscNode;
-pub use laws::told_lists_are_measured;
+pub use laws::{told_lists_are_measured, told_trees_are_built};
 pub use ligature::LigNode;
 pub use measuring::measure;
 pub use node::{KernKind, Node};
@@ -30,4 +30,6 @@ mod node;
 mod page_material;
 mod spacing;
 mod taking;
+#[cfg(test)]
+mod tests;
 mod whatsit;
