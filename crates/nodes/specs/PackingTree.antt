@@ -1,11 +1,11 @@
 -- Nesting and count of the whole tree under a list, with a look into boxes; and the trees whose boxes tell both.
 -- From: the limits `box nesting` and `list items`, which are rules of this program.
-use Rattle.std.specs.Prelude.{◌≡◌, ◌↔◌, ℕ, ◌+◌, min, max, List, [], ◌∷◌, map, sum, Option, Some, None, refl, All}
+use Rattle.std.specs.Prelude.{◌≡◌, ℕ, ◌+◌, min, List, [], ◌∷◌, map, sum, Option, Some, None, refl, All}
 use Rattle.std.specs.List.{sum_by, AllByRecursion}
 use Rattle.std.specs.Option.{option_map, IfSome}
 use Rattle.std.proofs.Common.{◌∙◌, ap, sym, subst, arith}
 use Rattle.std.proofs.lemmas.List.Sums.{sum-map, sum_by-cons}
-use Rattle.std.proofs.lemmas.List.Elements.{All-from_recursion, recursion_from_All}
+use Rattle.std.proofs.lemmas.List.Elements.{recursion_from_All}
 use Rattle.nodes.specs.declared.node.Node.{Node}
 use Rattle.nodes.specs.declared.node.Node.TheOpen.{Node-F}
 use Rattle.nodes.specs.declared.node.Node.TheFolds.{map-Node, fold-Node, fold-roll-Node, every-Node, every_here-Node, every_held-Node, ind-Node}

@@ -266,14 +266,24 @@ fn a_list_taken_apart_has_its_nodes_in_order(rt: HostRuntime) -> Result<(), Fail
     Ok(())
 }
 
+fn measure_of_kind(alloc: Global, number: usize) -> Result<(u16, u32), Stop> {
+    let list = one(alloc, kind(alloc, number)?)?;
+    Ok(measure(list.as_slice()))
+}
+
 #[test]
 fn each_kind_of_node_has_its_nesting_and_count(rt: HostRuntime) -> Result<(), Fail> {
-    let alloc = rt.alloc();
-    for (number, measured) in MEASURES.iter().enumerate() {
-        let list = one(alloc, kind(alloc, number)?)?;
-        assert_eq!(rt; measure(list.as_slice()), *measured, "kind {number}");
+    for number in 0..MEASURES.len() {
+        assert_eq!(rt; measure_of_kind(rt.alloc(), number)?, MEASURES[number]);
     }
-    let all = every_kind(alloc)?;
+    Ok(())
+}
+
+#[test]
+fn a_list_of_every_kind_has_the_deepest_nesting_and_all_counts(
+    rt: HostRuntime,
+) -> Result<(), Fail> {
+    let all = every_kind(rt.alloc())?;
     assert_eq!(rt; measure(all.as_slice()), (5, 48));
     Ok(())
 }

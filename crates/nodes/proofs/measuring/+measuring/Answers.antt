@@ -1,5 +1,5 @@
-use Rattle.std.proofs.Common.{◌≡◌, ◌+◌, min, max, arith}
-use Rattle.nodes.proofs.MeasureLaws.{nesting_of-next, count_of-next, node_nesting-Disc, node_count-Disc, node_nesting-Insert, node_count-Insert, node_nesting-Adjust, node_count-Adjust, stops_one_more, stops_sum}
+use Rattle.std.proofs.Common.{arith}
+use Rattle.nodes.proofs.MeasureLaws.{nesting_of-next, count_of-next, node_nesting-Disc, node_count-Disc, node_nesting-Insert, node_count-Insert, node_nesting-Adjust, node_count-Adjust}
 use Rattle.nodes.proofs.measuring.+measuring.Goals as goal
 
 pub measure-loop-i-preserved : goal.measure-loop-i-preserved
