@@ -1,0 +1,4 @@
+pub mod Cursors
+pub mod Growing
+pub mod Order
+pub mod WorkedWords
