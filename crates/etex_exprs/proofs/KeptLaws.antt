@@ -14,6 +14,7 @@ use Rattle.etex_exprs.specs.TermTreeParts.{bound_of, multiplied, divided, scaled
 use Rattle.etex_exprs.specs.TermTree.{Sum, Term, single, times, over, Factor, of_both, of_three, sum_value, term_value, factor_value, whole_value}
 use Rattle.etex_exprs.specs.TermTreeReading as tree
 use Rattle.etex_exprs.specs.TermTreeReading.{Front, no_sum, added, subtracted, no_term, Unfinished, has_front, has_product, has_values, all_have_values, factor_sort_behind, term_with}
+use Rattle.etex_exprs.specs.Levels as levels
 use Rattle.etex_exprs.specs.Steps as steps
 use Rattle.etex_exprs.specs.Standing.{front_kept, product_kept, level_kept, outer_kept}
 
@@ -62,7 +63,7 @@ sum_kept (subtracted s) sort l t e = subtracted_case (bound_of sort) (sum_value 
 
 -- the value of a term with one more factor
 abbrev Goes : Sort → product.Product → Option Glue → Glue → Type 0
-Goes sort q v g = v ≡ option_and_then (steps.product_with (bound_of sort) q) (checked (bound_of (steps.sort_behind q sort)) g)
+Goes sort q v g = v ≡ option_and_then (steps.product_with (bound_of sort) q) (checked (bound_of (levels.sort_behind q sort)) g)
 
 single_case : (sort : Sort) (f : Option Glue) (q : product.Product) (g : Glue) → Some products.Nothing ≡ Some q → f ≡ Some g → Goes sort q (option_and_then (checked (bound_of sort)) f) g
 single_case sort f q g e h =
@@ -131,7 +132,7 @@ both_there f (Some a) (Some b) = refl
 
 pub is_some-level_kept : (u : Unfinished) → is_some (level_kept u) ≡ has_values u
 is_some-level_kept u =
-    let both = both_there (λ (l : lead.Lead) (p : product.Product). steps.level_with u.sort l p) (front_kept u.front u.sort) (product_kept u.product u.sort) in
+    let both = both_there (λ (l : lead.Lead) (p : product.Product). levels.level_with u.sort l p) (front_kept u.front u.sort) (product_kept u.product u.sort) in
     both ∙ (ap (λ b. b && is_some (product_kept u.product u.sort)) (is_some-front_kept u.front u.sort)
     ∙ ap (λ b. has_front u.front u.sort && b) (is_some-product_kept u.product u.sort))
 
@@ -144,21 +145,21 @@ is_some-outer_kept (u ∷ us) =
 
 -- ---- the sort of the next factor
 
-sort_from_times : (sort : Sort) (t : Option Glue) (q : product.Product) → option_map products.Times t ≡ Some q → Whole ≡ steps.sort_behind q sort
+sort_from_times : (sort : Sort) (t : Option Glue) (q : product.Product) → option_map products.Times t ≡ Some q → Whole ≡ levels.sort_behind q sort
 sort_from_times sort None q e = cc
-sort_from_times sort (Some x) q e = ap (λ k. steps.sort_behind k sort) (some_of (products.Times x) q e)
+sort_from_times sort (Some x) q e = ap (λ k. levels.sort_behind k sort) (some_of (products.Times x) q e)
 
-sort_from_over : (sort : Sort) (t : Option Glue) (q : product.Product) → option_map products.Over t ≡ Some q → Whole ≡ steps.sort_behind q sort
+sort_from_over : (sort : Sort) (t : Option Glue) (q : product.Product) → option_map products.Over t ≡ Some q → Whole ≡ levels.sort_behind q sort
 sort_from_over sort None q e = cc
-sort_from_over sort (Some x) q e = ap (λ k. steps.sort_behind k sort) (some_of (products.Over x) q e)
+sort_from_over sort (Some x) q e = ap (λ k. levels.sort_behind k sort) (some_of (products.Over x) q e)
 
-sort_from_fraction : (sort : Sort) (t n : Option Glue) (q : product.Product) → option_and_then (λ x. option_map (λ y. products.Fraction x y.width) n) t ≡ Some q → Whole ≡ steps.sort_behind q sort
+sort_from_fraction : (sort : Sort) (t n : Option Glue) (q : product.Product) → option_and_then (λ x. option_map (λ y. products.Fraction x y.width) n) t ≡ Some q → Whole ≡ levels.sort_behind q sort
 sort_from_fraction sort None n q e = cc
 sort_from_fraction sort (Some x) None q e = cc
-sort_from_fraction sort (Some x) (Some y) q e = ap (λ k. steps.sort_behind k sort) (some_of (products.Fraction x y.width) q e)
+sort_from_fraction sort (Some x) (Some y) q e = ap (λ k. levels.sort_behind k sort) (some_of (products.Fraction x y.width) q e)
 
-pub sort_kept : (p : tree.Product) (sort : Sort) (q : product.Product) → product_kept p sort ≡ Some q → factor_sort_behind p sort ≡ steps.sort_behind q sort
-sort_kept no_term sort q e = ap (λ k. steps.sort_behind k sort) (some_of products.Nothing q e)
+pub sort_kept : (p : tree.Product) (sort : Sort) (q : product.Product) → product_kept p sort ≡ Some q → factor_sort_behind p sort ≡ levels.sort_behind q sort
+sort_kept no_term sort q e = ap (λ k. levels.sort_behind k sort) (some_of products.Nothing q e)
 sort_kept (tree.multiplied t) sort q e = sort_from_times sort (term_value t sort) q e
 sort_kept (tree.divided (times t n)) sort q e = sort_from_fraction sort (term_value t sort) (whole_value n) q e
 sort_kept (tree.divided (single n)) sort q e = sort_from_over sort (term_value (single n) sort) q e

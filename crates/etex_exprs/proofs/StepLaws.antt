@@ -30,8 +30,10 @@ use Rattle.etex_exprs.specs.TermTreeParts.{phrase_of, bound_of, number_of, parts
 use Rattle.etex_exprs.specs.TermTree.{Sum, Term, single, times, over, Factor, operand, enclosed, Said, Value, sum_value, term_value, factor_value, whole_value}
 use Rattle.etex_exprs.specs.TermTreeReading as tree
 use Rattle.etex_exprs.specs.TermTreeReading.{Unfinished, Reading, before, begun, behind, end, unclosed, mixed, nothing, has_values, has_front, all_have_values, fresh, factor_sort_behind, sum_of, read, read_before, read_behind, read_value, read_next, read_all, reading, wanted_behind, ended, overflow}
+use Rattle.etex_exprs.specs.Levels as levels
 use Rattle.etex_exprs.specs.Steps as steps
-use Rattle.etex_exprs.specs.Steps.{State, state_of, Step, goes, asks, stops, step_before, step_behind, step_bound, step_end, step_close, step_operator, step_at, step_of}
+use Rattle.etex_exprs.specs.Levels.{State}
+use Rattle.etex_exprs.specs.Steps.{state_of, Step, goes, asks, stops, step_before, step_behind, step_bound, step_end, step_close, step_operator, step_at, step_of}
 use Rattle.etex_exprs.specs.Standing.{front_kept, product_kept, level_kept, outer_kept, levels_kept, kept, AreNested, IsNested, IsForToken, IsForAnswer, WantsToken, WantsAnswer, IsAnswer, IsReady, Stands, StandsUnlessEnded, Says}
 use Rattle.etex_exprs.proofs.KeptLaws.{some_of, sum_kept, term_kept, sort_kept, is_some-along, is_some-product_kept, is_some-level_kept, is_some-outer_kept}
 
@@ -45,7 +47,7 @@ record Keeps (u : Unfinished) (us : List Unfinished) (q : lead.Lead) (p : produc
   nested : AreNested u us
 
 abbrev level_of : Unfinished → lead.Lead → product.Product → Level
-level_of u q p = steps.level_with u.sort q p
+level_of u q p = levels.level_with u.sort q p
 
 and_then-along : {A B : Type 0} → (f : A → Option B) (x : Option A) (a : A) → x ≡ Some a → option_and_then f x ≡ f a
 and_then-along f x a e = ap (option_and_then f) e
@@ -54,12 +56,12 @@ map-along : {A B : Type 0} → (f : A → B) (x : Option A) (a : A) → x ≡ So
 map-along f x a e = ap (option_map f) e
 
 abbrev with_leads : Unfinished → lead.Lead → Option Level
-with_leads u l = option_map (λ p. steps.level_with u.sort l p) (product_kept u.product u.sort)
+with_leads u l = option_map (λ p. levels.level_with u.sort l p) (product_kept u.product u.sort)
 
 level_is : (u : Unfinished) (us : List Unfinished) (q : lead.Lead) (p : product.Product) (ls : List Level) → Keeps u us q p ls → level_kept u ≡ Some (level_of u q p)
 level_is u us q p ls k =
     and_then-along (with_leads u) (front_kept u.front u.sort) q k.front
-    ∙ map-along (λ p. steps.level_with u.sort q p) (product_kept u.product u.sort) p k.product
+    ∙ map-along (λ p. levels.level_with u.sort q p) (product_kept u.product u.sort) p k.product
 
 abbrev with_outer : List Unfinished → Place → Level → Option State
 with_outer us place l = option_map (λ ls. state_of l ls place) (outer_kept us)
@@ -84,7 +86,7 @@ record Parts (u : Unfinished) (us : List Unfinished) (place : Place) (s : State)
 
 parts_apart : (u : Unfinished) (us : List Unfinished) (place : Place) (s : State) (x : Option lead.Lead) (y : Option product.Product) (z : Option (List Level))
     → front_kept u.front u.sort ≡ x → product_kept u.product u.sort ≡ y → outer_kept us ≡ z
-    → AreNested u us → option_and_then (λ l. option_map (λ ls. state_of l ls place) z) (option_and_then (λ l. option_map (λ p. steps.level_with u.sort l p) y) x) ≡ Some s
+    → AreNested u us → option_and_then (λ l. option_map (λ ls. state_of l ls place) z) (option_and_then (λ l. option_map (λ p. levels.level_with u.sort l p) y) x) ≡ Some s
     → Parts u us place s
 parts_apart u us place s None y z a b c n e = cc
 parts_apart u us place s (Some q) None z a b c n e = cc
@@ -117,7 +119,7 @@ before_holds u us q p ls k =
     (ap Some (if_true (has_values u && all_have_values us) Need overflow (values_there u us q p ls k)), levels_are u us q p ls Operand k, k.nested)
 
 begun_holds : (u : Unfinished) (us : List Unfinished) (q : lead.Lead) (p : product.Product) (ls : List Level) (m : Mark) → Keeps u us q p ls
-    → Holds (begun u us m) (asks (state_of (level_of u q p) ls Begun) (steps.factor_sort (level_of u q p)))
+    → Holds (begun u us m) (asks (state_of (level_of u q p) ls Begun) (levels.factor_sort (level_of u q p)))
 begun_holds u us q p ls m k = (
   ap Some (if_true (has_values u && all_have_values us) (Sub (phrase_of (tree.factor_sort u))) overflow (values_there u us q p ls k))
       ∙ ap (λ s. Some (Sub (phrase_of s))) (sort_kept u.product u.sort p k.product),
@@ -227,7 +229,7 @@ record Outside (o : Unfinished) (us : List Unfinished) (ls : List Level) : Type 
 
 outside_apart : (o : Unfinished) (us : List Unfinished) (ls : List Level) (x : Option lead.Lead) (y : Option product.Product) (z : Option (List Level))
     → front_kept o.front o.sort ≡ x → product_kept o.product o.sort ≡ y → outer_kept us ≡ z → AreNested o us
-    → option_and_then (λ l. option_map (λ ls. l ∷ ls) z) (option_and_then (λ l. option_map (λ p. steps.level_with o.sort l p) y) x) ≡ Some ls
+    → option_and_then (λ l. option_map (λ ls. l ∷ ls) z) (option_and_then (λ l. option_map (λ p. levels.level_with o.sort l p) y) x) ≡ Some ls
     → Outside o us ls
 outside_apart o us ls None y z a b c n e = cc
 outside_apart o us ls (Some q) None z a b c n e = cc
@@ -336,15 +338,15 @@ pending_case l g (Some x) f p e h =
 
 -- what is kept of the product behind a factor and `/`
 after_kept : (pr : tree.Product) (sort : Sort) (q : lead.Lead) (p : product.Product) (f : Factor) (g : Glue) → product_kept pr sort ≡ Some p → factor_value f (factor_sort_behind pr sort) ≡ Some g
-    → product_kept (tree.divided (tree.term_with pr f)) sort ≡ product_after p (steps.level_with sort q p) g
+    → product_kept (tree.divided (tree.term_with pr f)) sort ≡ product_after p (levels.level_with sort q p) g
 after_kept tree.no_term sort q p f g e h =
     ap (option_map products.Over) (term_kept tree.no_term sort p f g e h)
-    ∙ subst (IsCarriedOut (steps.level_with sort q p) g) (some_of products.Nothing p e) refl
+    ∙ subst (IsCarriedOut (levels.level_with sort q p) g) (some_of products.Nothing p e) refl
 after_kept (tree.multiplied t) sort q p f g e h =
-    pending_case (steps.level_with sort q p) g (term_value t sort) (factor_value f Whole) p e h
+    pending_case (levels.level_with sort q p) g (term_value t sort) (factor_value f Whole) p e h
 after_kept (tree.divided t) sort q p f g e h =
     ap (option_map products.Over) (term_kept (tree.divided t) sort p f g e h)
-    ∙ carried_out_of (steps.level_with sort q p) g t sort p e
+    ∙ carried_out_of (levels.level_with sort q p) g t sort p e
 
 operator_steps : (u : Unfinished) (us : List Unfinished) (q : lead.Lead) (p : product.Product) (ls : List Level) (f : Factor) (g : Glue) (o : operator.Operator) → Keeps u us q p ls
     → factor_value f (tree.factor_sort u) ≡ Some g → Holds (before (tree.with_operator u f o) us) (step_operator (level_of u q p) g ls o)
@@ -528,7 +530,7 @@ answer_says old new v n w a d sort taken h =
 
 abbrev StepIsReady : Step → Type 0
 StepIsReady (goes s) = WantsToken s
-StepIsReady (asks s k) = WantsAnswer s × (k ≡ steps.factor_sort s.level)
+StepIsReady (asks s k) = WantsAnswer s × (k ≡ levels.factor_sort s.level)
 StepIsReady (stops v) = IsLast v
 
 last_is_ready : (v : Verdict) (s : State) → IsLast v → IsReady v s

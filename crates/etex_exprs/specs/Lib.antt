@@ -2,6 +2,7 @@ pub mod TermTreeMarks
 pub mod TermTreeParts
 pub mod TermTree
 pub mod TermTreeReading
+pub mod Levels
 pub mod Steps
 pub mod Standing
 pub mod TermTreeLaws

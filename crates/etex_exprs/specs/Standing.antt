@@ -25,7 +25,7 @@ use Rattle.etex_exprs.specs.declared.place.Place.TheVariants.{Operand, Begun, Be
 use Rattle.etex_exprs.specs.TermTreeParts.{phrase_of, bound_of, is_mixed}
 use Rattle.etex_exprs.specs.TermTree.{Sum, Term, single, times, over, Factor, sum_value, term_value, factor_value, whole_value}
 use Rattle.etex_exprs.specs.TermTreeReading as tree
-use Rattle.etex_exprs.specs.Steps.{State, level_with, factor_sort}
+use Rattle.etex_exprs.specs.Levels.{State, level_with, factor_sort}
 use Rattle.etex_exprs.specs.TermTreeReading.{Front, no_sum, added, subtracted, no_term, multiplied, divided, Unfinished, Reading, before, begun, behind, end, unclosed, mixed, nothing, reading, wanted}
 
 -- ---- trees by their values

@@ -1,5 +1,5 @@
--- What the automaton keeps by values in place of trees, and how it goes on. That this is right is said by
--- the trees: Standing.antt.
+-- How the automaton goes on, by values in place of trees. Only clauses of private functions speak of it: they cut the
+-- proof in two. What the public calls answer is said by the trees alone (TermTreeReading.antt, Standing.antt).
 use Rattle.std.specs.Prelude.{◌≡◌, ℕ, Bool, true, false, ℤ, pos, List, [], ◌∷◌, Option, Some, None, option_and_then, if◌then◌else◌}
 use Rattle.std.specs.Option.{option_map, option_map_or}
 use Rattle.scaled.specs.declared.spacing.Glue.{Glue}
@@ -20,30 +20,12 @@ use Rattle.etex_exprs.specs.declared.level.Product.TheVariants as products
 use Rattle.etex_exprs.specs.declared.level.Level.{Level}
 use Rattle.etex_exprs.specs.declared.place.Place.{Place}
 use Rattle.etex_exprs.specs.declared.place.Place.TheVariants.{Operand, Begun, Behind, Ended}
+use Rattle.etex_exprs.specs.Levels.{State, factor_sort}
 use Rattle.etex_exprs.specs.TermTreeReading.{ended, overflow}
 use Rattle.etex_exprs.specs.TermTreeParts.{phrase_of, bound_of, parts_of, number_of, multiplied, divided, scaled_by, glue_sum, glue_difference, checked, is_mixed}
 
--- the innermost level, those outside it from the inside, and the place in the innermost
-pub record State : Type 0 where
-  pub level : Level
-  pub outer : List Level
-  pub place : Place
-
 abbrev pub start_level : Sort → Level
 start_level sort = record { sort = sort; lead = leads.Nothing; product = products.Nothing }
-
-abbrev pub level_with : Sort → lead.Lead → product.Product → Level
-level_with sort l p = record { sort = sort; lead = l; product = p }
-
--- the sort of the factor behind a product
-abbrev pub sort_behind : product.Product → Sort → Sort
-sort_behind products.Nothing sort = sort
-sort_behind (products.Times g) sort = Whole
-sort_behind (products.Over g) sort = Whole
-sort_behind (products.Fraction g n) sort = Whole
-
-abbrev pub factor_sort : Level → Sort
-factor_sort l = sort_behind l.product l.sort
 
 -- the product with one more factor
 abbrev pub product_with : ℤ → product.Product → Glue → Option Glue

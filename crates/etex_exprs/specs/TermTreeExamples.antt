@@ -2,6 +2,7 @@
 use Rattle.std.specs.Prelude.{◌≡◌, ℕ, ℤ, pos, negsuc, List, [], ◌∷◌, ◌++◌, Option, Some, None}
 use Rattle.tokens.specs.declared.token.Token.TheVariants as token
 use Rattle.tokens.specs.declared.meaning.Meaning.TheVariants as meaning
+use Rattle.tokens.specs.Codes.{relax_code}
 use Rattle.tokens.specs.declared.kind.Kind.TheVariants.{ArithOverflow, MissingParenthesis}
 use Rattle.scan_nums.specs.declared.number.Number.{Number}
 use Rattle.scan_nums.specs.declared.number.Number.TheVariants as number
@@ -20,7 +21,7 @@ abbrev pub value : Number → List Taken
 value n = Seen (token.Char 12 49) (meaning.Char 12 49) ∷ Told n ∷ []
 
 abbrev pub relax : List Taken
-relax = Seen (token.Frozen 0) (meaning.Primitive 210) ∷ []
+relax = Seen (token.Frozen 0) (meaning.Primitive relax_code) ∷ []
 
 abbrev pub space : List Taken
 space = Seen (token.Char 10 32) (meaning.Char 10 32) ∷ []

@@ -7,6 +7,7 @@ use Rattle.tokens.specs.declared.token.Token.{Token}
 use Rattle.tokens.specs.declared.token.Token.TheVariants as token
 use Rattle.tokens.specs.declared.meaning.Meaning.{Meaning}
 use Rattle.tokens.specs.declared.meaning.Meaning.TheVariants as meaning
+use Rattle.tokens.specs.Codes.{relax_code}
 use Rattle.etex_exprs.specs.declared.mark.Operator.TheVariants.{Plus, Minus, Times, Over}
 use Rattle.etex_exprs.specs.declared.mark.Mark.{Mark}
 use Rattle.etex_exprs.specs.declared.mark.Mark.TheVariants.{Blank, Open, Close, Operator, Relax, Other}
@@ -22,9 +23,9 @@ is_blank (meaning.MathCharDef code) = false
 is_blank (meaning.Register kind number) = false
 is_blank (meaning.Font font) = false
 
--- `\relax`, which is number 210 of the primitives
+-- `\relax`
 abbrev pub is_relax : Meaning → Bool
-is_relax (meaning.Primitive code) = code == 210
+is_relax (meaning.Primitive code) = code == relax_code
 is_relax meaning.Undefined = false
 is_relax (meaning.Macro m) = false
 is_relax (meaning.Char cat byte) = false

@@ -151,8 +151,23 @@ checked bound g =
 
 -- ---- answers
 
--- how an answer fits the phrase that was asked for
+-- whether an answer has mu units where others are wanted, or the other way round
+abbrev pub is_mu_glue : Number → Bool
+is_mu_glue (number.Int n) = false
+is_mu_glue (number.Dimen n) = false
+is_mu_glue (number.Glue g) = false
+is_mu_glue (number.MuGlue g) = true
+
+abbrev pub is_plain_glue : Number → Bool
+is_plain_glue (number.Int n) = false
+is_plain_glue (number.Dimen n) = false
+is_plain_glue (number.Glue g) = true
+is_plain_glue (number.MuGlue g) = false
+
 abbrev pub is_mixed : Phrase → Number → Bool
-is_mixed phrase.Glue (number.MuGlue g) = true
-is_mixed phrase.MuGlue (number.Glue g) = true
-is_mixed _ _ = false
+is_mixed phrase.Int n = false
+is_mixed phrase.Dimen n = false
+is_mixed phrase.Mu n = false
+is_mixed phrase.Glue n = is_mu_glue n
+is_mixed phrase.MuGlue n = is_plain_glue n
+is_mixed (phrase.Expr k) n = false

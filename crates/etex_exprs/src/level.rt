@@ -1,7 +1,8 @@
 //! What is kept of an expression while it is read: for each parenthesis that is open, the sum and the
 //! product in front of what comes next, by their values.
 ghost use Rattle.std.specs.Prelude.{◌≡◌};
-ghost use Rattle.etex_exprs.specs.Steps.{factor_sort, start_level, carried_out, term_of, joined, whole_of, with_product, with_sum, divided_level, with_operator};
+ghost use Rattle.etex_exprs.specs.Levels.{factor_sort};
+ghost use Rattle.etex_exprs.specs.Steps.{start_level, carried_out, term_of, joined, whole_of, with_product, with_sum, divided_level, with_operator};
 
 use crate::mark::Operator;
 use crate::parts::{self, scaled_by};

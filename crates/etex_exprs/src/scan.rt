@@ -1,6 +1,7 @@
 //! The automaton of expressions.
 ghost use Rattle.std.specs.Prelude.{◌≡◌, List, [], ◌∷◌, ◌++◌, reverse, MatchOption, IfOk, OnOk, IsOk, OnErr};
-ghost use Rattle.etex_exprs.specs.Steps.{State, Did, step_of, step_before, step_behind, step_bound, step_end, step_close, step_operator, step_answer};
+ghost use Rattle.etex_exprs.specs.Levels.{State};
+ghost use Rattle.etex_exprs.specs.Steps.{Did, step_of, step_before, step_behind, step_bound, step_end, step_close, step_operator, step_answer};
 ghost use Rattle.scan_nums.specs.Taken.{Taken, Seen, Told};
 ghost use Rattle.etex_exprs.specs.TermTreeParts.{phrase_of};
 ghost use Rattle.etex_exprs.specs.TermTreeReading.{ended};
