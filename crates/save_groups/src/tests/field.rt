@@ -60,19 +60,28 @@ impl<L: Ledger> Run<L> {
     }
 }
 
-/// Assigns in a group, and ends it.
+fn assign_in_group<L: Ledger>(run: &mut Run<L>) -> Result<(), Fail> {
+    run.enter()?;
+    run.assign(COUNT, Value::Number(7))?;
+    Ok(())
+}
+
+/// Ends the group, if there is one, and tells the line at which it began.
+fn line_of_group<L: Ledger>(run: &mut Run<L>) -> Option<u32> {
+    if run.env.level() == 1 {
+        return None;
+    }
+    Some(run.leave().line)
+}
+
 fn assigning<L: Ledger>(rt: &impl Abort, alloc: Global, blank: Blank) -> Result<(), Fail>
     requires name { blank.name ≡ L.name }
     requires parts { blank.parts ≡ L.parts }
     requires some { 0 < L.parts }
 {
     let mut run = Run::<L>::new(alloc, blank)?;
-    run.enter()?;
-    run.assign(COUNT, Value::Number(7))?;
-    if run.env.level() == 1 {
-        return Err("no group".into());
-    }
-    assert_eq!(rt; run.leave().line, 17);
+    assign_in_group(&mut run)?;
+    assert_eq!(rt; line_of_group(&mut run), Some(17));
     assert_eq!(rt; super::number(&run.env, COUNT), 0);
     Ok(())
 }

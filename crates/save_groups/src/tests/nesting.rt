@@ -1,14 +1,17 @@
 //! The tokens of `\aftergroup`, and how many groups can be open (The TeXbook, chapters 20 and 24).
 ghost use Rattle.std.specs.Prelude.{◌≡◌, ◌<◌};
 
-use super::{COUNT, Groups, SEMI_SIMPLE, number};
-use crate::{Scope, Value};
+use super::content::Content::Number;
+use super::content::NumberAt::Count;
+use super::script::Step::{Begin, BeginMany, End, EndMany, Full, Holds, Kind, Level, Local, Saves};
+use super::script::play;
+use super::{Groups, SEMI_SIMPLE};
 use std::alloc::Global;
 use std::marker::Brand;
 use std::process::Abort;
 use std::sync::ledger::{Blank, Ledger};
 use std::test::Fail;
-use tokens::{Cap, NameId, Stop, Token};
+use tokens::{NameId, Token};
 
 /// Lets tokens wait, each in turn.
 fn wait_all<L: Ledger>(
@@ -30,8 +33,7 @@ fn end_with<L: Ledger>(
     line: u32,
     after: &[Token],
 ) -> Result<(), Fail> {
-    assert_eq!(rt; groups.env.group_kind(), kind);
-    let left = groups.end().ok_or("no group")?;
+    let left = groups.leave().ok_or("no group")?;
     assert_eq!(rt; left.kind, kind);
     assert_eq!(rt; left.line, line);
     assert_eq!(rt; left.after.as_slice(), after);
@@ -54,12 +56,17 @@ fn group_inside<L: Ledger>(rt: &impl Abort, groups: &mut Groups<L>) -> Result<()
     end_with(rt, groups, SEMI_SIMPLE, 19, &[TILDE])
 }
 
-/// A group with tokens before and behind one inside.
-fn group_outside<L: Ledger>(rt: &impl Abort, groups: &mut Groups<L>) -> Result<(), Fail> {
-    groups.env.enter(1, 17)?;
+/// What happens in a group with tokens before and behind one inside.
+fn inside_a_group<L: Ledger>(rt: &impl Abort, groups: &mut Groups<L>) -> Result<(), Fail> {
     wait_all(rt, groups, &[RELAX, LETTER])?;
     group_inside(rt, groups)?;
     wait_all(rt, groups, &[TILDE, RELAX])
+}
+
+fn group_outside<L: Ledger>(rt: &impl Abort, groups: &mut Groups<L>) -> Result<(), Fail> {
+    groups.env.enter(1, 17)?;
+    inside_a_group(rt, groups)?;
+    end_with(rt, groups, 1, 17, &[RELAX, LETTER, TILDE, RELAX])
 }
 
 fn waiting<L: Ledger>(rt: &impl Abort, alloc: Global, blank: Blank) -> Result<(), Fail>
@@ -68,10 +75,7 @@ fn waiting<L: Ledger>(rt: &impl Abort, alloc: Global, blank: Blank) -> Result<()
     requires some { 0 < L.parts }
 {
     let mut groups = Groups::<L>::new(alloc, true, blank)?;
-    group_outside(rt, &mut groups)?;
-    end_with(rt, &mut groups, 1, 17, &[RELAX, LETTER, TILDE, RELAX])?;
-    assert_eq!(rt; groups.env.group_kind(), 0);
-    Ok(())
+    group_outside(rt, &mut groups)
 }
 
 #[test]
@@ -79,68 +83,28 @@ fn tokens_come_back_in_their_order(rt: HostRuntime) -> Result<(), Fail> {
     waiting::<Brand>(&rt, rt.alloc(), Blank::new(1))
 }
 
-/// Whether a group was refused because there are too many.
-fn is_full(answer: &Result<(), Stop>) -> bool {
-    match answer {
-        Err(Stop::Capacity(Cap::Groups)) => true,
-        _ => false,
-    }
-}
-
-/// Tries to begin one group too many, which changes nothing.
-fn begin_beyond<L: Ledger>(rt: &impl Abort, groups: &mut Groups<L>) {
-    let kind = groups.env.group_kind();
-    let value = number(&groups.env, COUNT);
-    let saved = groups.env.saved();
-    assert!(rt; is_full(&groups.env.enter(SEMI_SIMPLE, 255)));
-    assert_eq!(rt; groups.env.level(), 256);
-    assert_eq!(rt; groups.env.group_kind(), kind);
-    assert_eq!(rt; number(&groups.env, COUNT), value);
-    assert_eq!(rt; groups.env.saved(), saved);
-}
-
-/// Begins 255 groups, with an assignment in the innermost one.
-fn begin_all<L: Ledger>(groups: &mut Groups<L>) -> Result<(), Fail> {
-    for line in 0..255u32 {
-        groups.env.enter(1, line)?;
-    }
-    groups.set(COUNT, Value::Number(7), Scope::Local)?;
-    Ok(())
-}
-
-/// Ends as many.
-fn end_all<L: Ledger>(groups: &mut Groups<L>) -> Result<(), Fail> {
-    for _ in 0..255u32 {
-        groups.end().ok_or("no group")?;
-    }
-    Ok(())
-}
-
-/// With all groups open, one more is refused, also where one ended and another began in its place.
-fn at_the_limit<L: Ledger>(rt: &impl Abort, groups: &mut Groups<L>) -> Result<(), Fail> {
-    begin_beyond(rt, groups);
-    assert_eq!(rt; number(&groups.env, COUNT), 7);
-    end_with(rt, groups, 1, 254, &[])?;
-    assert_eq!(rt; number(&groups.env, COUNT), 0);
-    groups.begin()?;
-    begin_beyond(rt, groups);
-    Ok(())
-}
-
-fn many_groups<L: Ledger>(rt: &impl Abort, alloc: Global, blank: Blank) -> Result<(), Fail>
-    requires name { blank.name ≡ L.name }
-    requires parts { blank.parts ≡ L.parts }
-    requires some { 0 < L.parts }
-{
-    let mut groups = Groups::<L>::new(alloc, true, blank)?;
-    begin_all(&mut groups)?;
-    at_the_limit(rt, &mut groups)?;
-    end_all(&mut groups)?;
-    assert_eq!(rt; groups.env.level(), 1);
-    Ok(())
-}
-
+/// One group too many is refused, which changes nothing, also where one ended and another began in its place.
 #[test]
 fn only_255_groups_can_be_open(rt: HostRuntime) -> Result<(), Fail> {
-    many_groups::<Brand>(&rt, rt.alloc(), Blank::new(1))
+    let script = [
+        Kind(0),
+        BeginMany(255),
+        Local(Number(Count, 7)),
+        Full,
+        Level(256),
+        Kind(14),
+        Holds(Number(Count, 7)),
+        Saves(1),
+        End,
+        Level(255),
+        Holds(Number(Count, 0)),
+        Begin,
+        Full,
+        Level(256),
+        Saves(0),
+        EndMany(255),
+        Level(1),
+        Kind(0),
+    ];
+    play(&rt, rt.alloc(), true, &script)
 }

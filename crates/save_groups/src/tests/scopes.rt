@@ -1,173 +1,174 @@
 //! Local and global assignments, and their saves.
-ghost use Rattle.std.specs.Prelude.{◌≡◌, ◌<◌};
 
-use super::{Groups, Place, Step, check_saves, follow, take};
-use std::alloc::Global;
-use std::marker::Brand;
-use std::process::Abort;
-use std::sync::ledger::{Blank, Ledger};
+use super::content::Content::{Meaning, Number};
+use super::content::NumberAt::{Count, Dimen, Font};
+use super::content::{MeaningAt, Sample};
+use super::script::Step::{Begin, End, Global, Holds, Local, Name, Saved, Saves, Unnamed};
+use super::script::{Step, play};
 use std::test::Fail;
-
-fn global_between<L: Ledger>(rt: &impl Abort, alloc: Global, blank: Blank) -> Result<(), Fail>
-    requires name { blank.name ≡ L.name }
-    requires parts { blank.parts ≡ L.parts }
-    requires some { 0 < L.parts }
-{
-    let mut groups = Groups::<L>::new(alloc, true, blank)?;
-    follow(
-        rt,
-        &mut groups,
-        &[
-            (Step::Local(1), 1),
-            (Step::Begin, 1),
-            (Step::Local(2), 2),
-            (Step::Global(3), 3),
-            (Step::Begin, 3),
-            (Step::Local(4), 4),
-            (Step::End, 3),
-            (Step::End, 3),
-        ],
-    )
-}
 
 #[test]
 fn the_last_global_value_comes_out(rt: HostRuntime) -> Result<(), Fail> {
-    global_between::<Brand>(&rt, rt.alloc(), Blank::new(1))
-}
-
-fn local_behind_global<L: Ledger>(rt: &impl Abort, alloc: Global, blank: Blank) -> Result<(), Fail>
-    requires name { blank.name ≡ L.name }
-    requires parts { blank.parts ≡ L.parts }
-    requires some { 0 < L.parts }
-{
-    let mut groups = Groups::<L>::new(alloc, true, blank)?;
-    follow(
-        rt,
-        &mut groups,
-        &[
-            (Step::Local(1), 1),
-            (Step::Begin, 1),
-            (Step::Local(2), 2),
-            (Step::Global(3), 3),
-            (Step::Local(4), 4),
-            (Step::End, 3),
-        ],
-    )
+    let script = [
+        Local(Number(Count, 1)),
+        Begin,
+        Holds(Number(Count, 1)),
+        Local(Number(Count, 2)),
+        Holds(Number(Count, 2)),
+        Global(Number(Count, 3)),
+        Holds(Number(Count, 3)),
+        Begin,
+        Local(Number(Count, 4)),
+        Holds(Number(Count, 4)),
+        End,
+        Holds(Number(Count, 3)),
+        End,
+        Holds(Number(Count, 3)),
+    ];
+    play(&rt, rt.alloc(), true, &script)
 }
 
 #[test]
 fn a_local_value_behind_a_global_one_ends_with_its_group(rt: HostRuntime) -> Result<(), Fail> {
-    local_behind_global::<Brand>(&rt, rt.alloc(), Blank::new(1))
-}
-
-fn same_global<L: Ledger>(rt: &impl Abort, alloc: Global, blank: Blank) -> Result<(), Fail>
-    requires name { blank.name ≡ L.name }
-    requires parts { blank.parts ≡ L.parts }
-    requires some { 0 < L.parts }
-{
-    let mut groups = Groups::<L>::new(alloc, true, blank)?;
-    follow(
-        rt,
-        &mut groups,
-        &[
-            (Step::Local(1), 1),
-            (Step::Begin, 1),
-            (Step::Local(2), 2),
-            (Step::Global(2), 2),
-            (Step::End, 2),
-        ],
-    )
+    let script = [
+        Local(Number(Count, 1)),
+        Begin,
+        Local(Number(Count, 2)),
+        Global(Number(Count, 3)),
+        Local(Number(Count, 4)),
+        Holds(Number(Count, 4)),
+        End,
+        Holds(Number(Count, 3)),
+    ];
+    play(&rt, rt.alloc(), true, &script)
 }
 
 #[test]
 fn the_same_global_value_stays(rt: HostRuntime) -> Result<(), Fail> {
-    same_global::<Brand>(&rt, rt.alloc(), Blank::new(1))
-}
-
-fn two_saves<L: Ledger>(rt: &impl Abort, alloc: Global, blank: Blank) -> Result<(), Fail>
-    requires name { blank.name ≡ L.name }
-    requires parts { blank.parts ≡ L.parts }
-    requires some { 0 < L.parts }
-{
-    let mut groups = Groups::<L>::new(alloc, true, blank)?;
-    follow(
-        rt,
-        &mut groups,
-        &[
-            (Step::Local(1), 1),
-            (Step::Begin, 1),
-            (Step::Local(2), 2),
-            (Step::Global(3), 3),
-        ],
-    )?;
-    check_saves(rt, &groups.env, &[(Place::Count, 2, 1, 1)]);
-    follow(rt, &mut groups, &[(Step::Local(4), 4)])?;
-    check_saves(
-        rt,
-        &groups.env,
-        &[(Place::Count, 2, 1, 1), (Place::Count, 2, 1, 3)],
-    );
-    follow(rt, &mut groups, &[(Step::End, 3)])?;
-    check_saves(rt, &groups.env, &[]);
-    Ok(())
+    let script = [
+        Local(Number(Count, 1)),
+        Begin,
+        Local(Number(Count, 2)),
+        Global(Number(Count, 2)),
+        End,
+        Holds(Number(Count, 2)),
+    ];
+    play(&rt, rt.alloc(), true, &script)
 }
 
 #[test]
 fn local_global_local_makes_two_saves(rt: HostRuntime) -> Result<(), Fail> {
-    two_saves::<Brand>(&rt, rt.alloc(), Blank::new(1))
+    let first = Saved {
+        before: 0,
+        place: Count,
+        group: 2,
+        level: 1,
+        number: 1,
+    };
+    let second = Saved {
+        before: 1,
+        place: Count,
+        group: 2,
+        level: 1,
+        number: 3,
+    };
+    let script = [
+        Local(Number(Count, 1)),
+        Begin,
+        Local(Number(Count, 2)),
+        Global(Number(Count, 3)),
+        Saves(1),
+        first,
+        Local(Number(Count, 4)),
+        Saves(2),
+        first,
+        second,
+        End,
+        Holds(Number(Count, 3)),
+        Saves(0),
+    ];
+    play(&rt, rt.alloc(), true, &script)
 }
 
-/// Takes steps, each assignment to its own place.
-fn take_all<L: Ledger>(groups: &mut Groups<L>, steps: &[(Place, Step)]) -> Result<(), Fail> {
-    for (place, step) in steps {
-        take(groups, *place, *step)?;
-    }
-    Ok(())
-}
-
-fn saves<L: Ledger>(rt: &impl Abort, alloc: Global, blank: Blank) -> Result<(), Fail>
-    requires name { blank.name ≡ L.name }
-    requires parts { blank.parts ≡ L.parts }
-    requires some { 0 < L.parts }
-{
-    let mut groups = Groups::<L>::new(alloc, true, blank)?;
-    take_all(
-        &mut groups,
-        &[
-            (Place::Count, Step::Local(1)),
-            (Place::Dimen, Step::Local(10)),
-            (Place::Count, Step::Begin),
-            (Place::Count, Step::Local(2)),
-            (Place::Dimen, Step::Local(20)),
-            (Place::Count, Step::Local(3)),
-            (Place::Count, Step::Begin),
-            (Place::Dimen, Step::Local(30)),
-            (Place::Font, Step::Local(1)),
-            (Place::Count, Step::Local(4)),
-        ],
-    )?;
-    check_saves(
-        rt,
-        &groups.env,
-        &[
-            (Place::Count, 2, 1, 1),
-            (Place::Dimen, 2, 1, 10),
-            (Place::Dimen, 3, 2, 20),
-            (Place::Font, 3, 1, 0),
-            (Place::Count, 3, 2, 3),
-        ],
-    );
-    assert!(rt; groups.env.save(u64::MAX).is_none());
-    take(&mut groups, Place::Count, Step::End)?;
-    check_saves(
-        rt,
-        &groups.env,
-        &[(Place::Count, 2, 1, 1), (Place::Dimen, 2, 1, 10)],
-    );
-    Ok(())
-}
+/// Three numbers in two groups: one is assigned once more in its group, which makes no save.
+const TWO_GROUPS: &[Step] = &[
+    Local(Number(Count, 1)),
+    Local(Number(Dimen, 10)),
+    Begin,
+    Local(Number(Count, 2)),
+    Local(Number(Dimen, 20)),
+    Local(Number(Count, 3)),
+    Begin,
+    Local(Number(Dimen, 30)),
+    Local(Number(Font, 1)),
+    Local(Number(Count, 4)),
+    Saves(5),
+    Saved {
+        before: 0,
+        place: Count,
+        group: 2,
+        level: 1,
+        number: 1,
+    },
+    Saved {
+        before: 1,
+        place: Dimen,
+        group: 2,
+        level: 1,
+        number: 10,
+    },
+    Saved {
+        before: 2,
+        place: Dimen,
+        group: 3,
+        level: 2,
+        number: 20,
+    },
+    Saved {
+        before: 3,
+        place: Font,
+        group: 3,
+        level: 1,
+        number: 0,
+    },
+    Saved {
+        before: 4,
+        place: Count,
+        group: 3,
+        level: 2,
+        number: 3,
+    },
+    End,
+    Saves(2),
+    Saved {
+        before: 1,
+        place: Dimen,
+        group: 2,
+        level: 1,
+        number: 10,
+    },
+];
 
 #[test]
 fn saves_are_listed_the_oldest_first(rt: HostRuntime) -> Result<(), Fail> {
-    saves::<Brand>(&rt, rt.alloc(), Blank::new(1))
+    play(&rt, rt.alloc(), true, TWO_GROUPS)
+}
+
+#[test]
+fn a_thousand_saves_of_each_group_are_undone(rt: HostRuntime) -> Result<(), Fail> {
+    let script = [
+        Begin,
+        Name(1000),
+        Saves(1000),
+        Begin,
+        Name(1000),
+        Saves(2000),
+        End,
+        Saves(1000),
+        Holds(Meaning(MeaningAt::Name, Sample::Letter)),
+        End,
+        Saves(0),
+        Unnamed(1000),
+    ];
+    play(&rt, rt.alloc(), false, &script)
 }

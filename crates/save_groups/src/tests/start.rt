@@ -1,19 +1,22 @@
 //! INITEX's values (The TeXbook, appendix B).
-ghost use Rattle.std.specs.Prelude.{false, IsTrue};
-ghost use Rattle.save_groups.specs.Keys.{is_key, holds_meaning};
 
-use super::{
-    CATEGORY, COUNT, DELIMITER, DIMEN, LOWER_CASE, MATH_CODE, MUSKIP, NAME, NO_GLUE, SKIP,
-    SPACE_FACTOR, TOKS, UPPER_CASE, glue, list, means, number,
+use super::content::Content::{Category, Glue, Meaning, Number, Tokens};
+use super::content::{
+    CATEGORY, Content, DELIMITER, GlueAt, LOWER_CASE, ListAt, MATH_CODE, MeaningAt, NumberAt,
+    SPACE_FACTOR, Sample, UPPER_CASE,
 };
+use super::script::Step::{Holds, Kind, Level, Saves, Unnamed};
+use super::script::play;
+use super::{means, name, number};
 use crate::parameters::{
-    DAY, END_LINE_CHAR, ESCAPE_CHAR, EVERY_EOF, FIRST_DIMENSION, FIRST_EXTENDED, FIRST_GLUE,
-    FIRST_TOKENS, MAG, MONTH, TIME, TOLERANCE, YEAR,
+    DAY, END_LINE_CHAR, ESCAPE_CHAR, EVERY_EOF, FIRST_DIMENSION, FIRST_EXTENDED, FIRST_GLUE, MAG,
+    MONTH, TIME, TOLERANCE, YEAR,
 };
 use crate::{Env, Key};
+use std::alloc::Global;
 use std::process::Abort;
 use std::test::Fail;
-use tokens::{Meaning, NameId, RegKind, codes};
+use tokens::{RegKind, codes};
 
 /// A few codes of the start: the table, the byte and the code. Only one byte escapes, and none opens a group.
 const CODES: &[(u8, u8, i32)] = &[
@@ -72,92 +75,98 @@ fn starting_parameters(rt: &impl Abort, env: &Env) {
         assert!(rt; place < FIRST_GLUE);
         assert_eq!(rt; number(env, Key::Parameter(place)), *wanted);
     }
-    assert_eq!(rt; glue(env, Key::Parameter(FIRST_GLUE)), NO_GLUE);
-    assert_eq!(rt;
-        list(env, Key::Parameter(FIRST_TOKENS)).as_slice(),
-        [].as_slice()
-    );
 }
 
-fn starting_registers(rt: &impl Abort, env: &Env) {
-    assert_eq!(rt; number(env, COUNT), 0);
-    assert_eq!(rt; number(env, DIMEN), 0);
-    assert_eq!(rt; glue(env, SKIP), NO_GLUE);
-    assert_eq!(rt; glue(env, MUSKIP), NO_GLUE);
-    assert_eq!(rt; list(env, TOKS).as_slice(), [].as_slice());
-    assert_eq!(rt; number(env, Key::CurrentFont), 0);
-    assert_eq!(rt;
-        number(
-            env,
-            Key::Family {
-                size: 2,
-                number: 15
-            }
-        ),
-        0
-    );
-}
-
-/// The name of a primitive.
-fn name(code: u16) -> Key
-    ensures key { IsTrue (is_key false result) }
-    ensures kind { IsTrue (holds_meaning result) }
-{
-    Key::Name(NameId(u64::from(code)))
-}
-
-/// The names of both modes.
-fn starting_names(rt: &impl Abort, env: &Env) {
-    assert!(rt; means(env, name(codes::RELAX), &Meaning::Primitive(codes::RELAX)));
-    assert!(rt; means(env, name(codes::NULLFONT), &Meaning::Font(0)));
-    assert!(rt; means(env, NAME, &Meaning::Undefined));
-    assert!(rt; means(env, Key::Active(b'~'), &Meaning::Undefined));
-}
-
-/// What both modes start with.
-fn starting_values(rt: &impl Abort, env: &Env) {
-    starting_codes(rt, env);
-    starting_parameters(rt, env);
-    starting_registers(rt, env);
-    starting_names(rt, env);
-    assert_eq!(rt; env.level(), 1);
-    assert_eq!(rt; env.group_kind(), 0);
-    assert_eq!(rt; env.saved(), 0);
-}
-
-#[test]
-fn compatibility_mode_starts_with_the_values_of_initex(rt: HostRuntime) -> Result<(), Fail> {
-    let env = Env::new(rt.alloc(), false)?;
-    starting_values(&rt, &env);
-    assert!(rt; means(&env, name(codes::NUMEXPR), &Meaning::Undefined));
+fn starting_tables(rt: &impl Abort, alloc: Global, extended: bool) -> Result<(), Fail> {
+    let env = Env::new(alloc, extended)?;
+    starting_codes(rt, &env);
+    starting_parameters(rt, &env);
     Ok(())
 }
 
 #[test]
-fn extended_mode_starts_with_the_values_of_initex(rt: HostRuntime) -> Result<(), Fail> {
-    let env = Env::new(rt.alloc(), true)?;
-    starting_values(&rt, &env);
+fn both_modes_start_with_the_codes_and_parameters_of_initex(rt: HostRuntime) -> Result<(), Fail> {
+    starting_tables(&rt, rt.alloc(), false)?;
+    starting_tables(&rt, rt.alloc(), true)
+}
+
+/// Contents of entries that hold nothing at the start.
+const NOTHING: &[Content] = &[
+    Number(NumberAt::Count, 0),
+    Number(NumberAt::Dimen, 0),
+    Number(NumberAt::Dimension, 0),
+    Number(NumberAt::Font, 0),
+    Number(NumberAt::Family, 0),
+    Category { active: false },
+    Glue(GlueAt::Skip, None),
+    Glue(GlueAt::Muskip, None),
+    Glue(GlueAt::Parameter, None),
+    Tokens(ListAt::Register, None),
+    Tokens(ListAt::Parameter, None),
+    Meaning(MeaningAt::Name, Sample::Undefined),
+    Meaning(MeaningAt::Active, Sample::Undefined),
+];
+
+#[test]
+fn both_modes_start_outside_all_groups_with_nothing(rt: HostRuntime) -> Result<(), Fail> {
+    for content in NOTHING {
+        let script = [Level(1), Kind(0), Saves(0), Unnamed(9), Holds(*content)];
+        play(&rt, rt.alloc(), false, &script)?;
+        play(&rt, rt.alloc(), true, &script)?;
+    }
+    Ok(())
+}
+
+/// The names of both modes, and one that only extended mode has.
+fn starting_names(
+    rt: &impl Abort,
+    alloc: Global,
+    extended: bool,
+    numexpr: &tokens::Meaning,
+) -> Result<(), Fail> {
+    let env = Env::new(alloc, extended)?;
     assert!(rt;
         means(
             &env,
-            name(codes::NUMEXPR),
-            &Meaning::Primitive(codes::NUMEXPR)
+            name(u64::from(codes::RELAX)),
+            &tokens::Meaning::Primitive(codes::RELAX)
         )
     );
-    assert_eq!(rt;
-        env.number(Key::Register {
-            kind: RegKind::Count,
-            number: 32_767
-        }),
-        0
+    assert!(rt;
+        means(
+            &env,
+            name(u64::from(codes::NULLFONT)),
+            &tokens::Meaning::Font(0)
+        )
     );
-    assert_eq!(rt;
-        env.glue(Key::Register {
-            kind: RegKind::Muskip,
-            number: 32_767
-        }),
-        NO_GLUE
-    );
+    assert!(rt; means(&env, name(u64::from(codes::NUMEXPR)), numexpr));
+    Ok(())
+}
+
+#[test]
+fn names_start_with_the_primitives_of_their_mode(rt: HostRuntime) -> Result<(), Fail> {
+    starting_names(&rt, rt.alloc(), false, &tokens::Meaning::Undefined)?;
+    starting_names(
+        &rt,
+        rt.alloc(),
+        true,
+        &tokens::Meaning::Primitive(codes::NUMEXPR),
+    )
+}
+
+#[test]
+fn extended_mode_has_registers_to_32767(rt: HostRuntime) -> Result<(), Fail> {
+    let env = Env::new(rt.alloc(), true)?;
+    let (kind, number) = (RegKind::Count, 32_767);
+    assert_eq!(rt; env.number(Key::Register { kind, number }), 0);
+    let kind = RegKind::Muskip;
+    assert_eq!(rt; env.glue(Key::Register { kind, number }).width, 0);
+    Ok(())
+}
+
+#[test]
+fn extended_mode_has_parameters_of_its_own(rt: HostRuntime) -> Result<(), Fail> {
+    let env = Env::new(rt.alloc(), true)?;
     assert_eq!(rt; env.number(Key::Parameter(FIRST_EXTENDED)), 0);
     assert_eq!(rt;
         env.toks(Key::Parameter(EVERY_EOF)).as_slice(),
