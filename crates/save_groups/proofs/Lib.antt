@@ -8,3 +8,5 @@ pub mod Marks
 pub mod Steps
 pub mod Assigning
 pub mod Modes
+pub mod Given
+pub mod Further

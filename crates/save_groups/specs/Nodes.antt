@@ -2,8 +2,8 @@
 -- significant first (the e-TeX manual, on additional registers, which are kept in sparse arrays; etex.ch, on those
 -- arrays, of which a name that `\countdef` made keeps an element alive). An environment is a function, so these
 -- definitions are given the list of the keys that ever got a value.
-use Rattle.std.specs.Prelude.{ℕ, ◌/◌, ◌==◌, nat_le, Bool, not, ◌&&◌, List, [], ◌∷◌, ◌++◌, length, filter, if◌then◌else◌}
-use Rattle.std.specs.List.{list_any}
+use Rattle.std.specs.Prelude.{ℕ, ◌≡◌, ◌/◌, ◌==◌, nat_le, Bool, true, not, ◌&&◌, List, [], ◌∷◌, ◌++◌, length, filter, if◌then◌else◌}
+use Rattle.std.specs.List.{list_any, list_all}
 use Rattle.tokens.specs.declared.meaning.Meaning.{Meaning}
 use Rattle.tokens.specs.declared.meaning.Meaning.TheVariants as meaning
 use Rattle.tokens.specs.declared.meaning.RegKind.{RegKind}
@@ -16,8 +16,8 @@ use Rattle.save_groups.specs.declared.save.Save.{Save}
 use Rattle.save_groups.specs.Keys.{same_key}
 use Rattle.save_groups.specs.Values.{same_value}
 use Rattle.save_groups.specs.StartValues.{start_value}
-use Rattle.save_groups.specs.Environments.{Copies}
-use Rattle.save_groups.specs.Calls.{Attempt, attempted, given_by}
+use Rattle.save_groups.specs.Environments.{Copies, beginning}
+use Rattle.save_groups.specs.Calls.{Attempt, attempted, after_attempts, given_by, given}
 
 -- the register that a meaning names, if it names one
 abbrev pub named_by_meaning : Meaning → List Key
@@ -69,9 +69,13 @@ held_by_meanings (key ∷ keys) c = named_by (c.last key).value ++ held_by_meani
 abbrev pub held_registers : List Key → Copies → List Key
 held_registers keys c = tree_registers (held_by_saves c.saves ++ held_by_meanings (distinct_keys keys) c)
 
--- those that aren't initial
+-- whether an entry has its value of the start
+abbrev pub is_initial : Copies → Key → Bool
+is_initial c key = same_value (start_value c.extended key) (c.last key).value
+
+-- the registers that aren't initial
 abbrev pub set_registers : List Key → Copies → List Key
-set_registers keys c = filter (λ key. not (same_value (start_value c.extended key) (c.last key).value)) (tree_registers keys)
+set_registers keys c = filter (λ key. not (is_initial c key)) (tree_registers keys)
 
 -- a node: a kind of registers, and the first digits of some of its registers
 pub record Prefix : Type 0 where
@@ -114,3 +118,19 @@ abbrev pub nodes_after : List Key → List Attempt → Copies → List ℕ
 nodes_after keys [] c = []
 nodes_after keys (attempt ∷ attempts) c =
     nodes (given_by attempt ++ keys) (attempted attempt c) ∷ nodes_after (given_by attempt ++ keys) attempts (attempted attempt c)
+
+-- ---- further keys in the list change nothing
+
+-- further keys, of entries that have their values of the start, hold no register and take no node
+abbrev pub FurtherKeysLaw : Type 0
+FurtherKeysLaw = (further keys : List Key) (c : Copies) → list_all (is_initial c) further ≡ true
+    → (held_registers (further ++ keys) c ≡ held_registers keys c) × (nodes (further ++ keys) c ≡ nodes keys c)
+
+-- whether none of some calls gave an entry a value
+abbrev pub is_never_given : List Attempt → Key → Bool
+is_never_given attempts key = not (list_any (λ k. same_key k key) (given attempts))
+
+-- so it is enough to know the keys that some calls gave a value
+abbrev pub GivenKeysLaw : Type 0
+GivenKeysLaw = (extended : Bool) (attempts : List Attempt) (further : List Key) → list_all (is_never_given attempts) further ≡ true
+    → nodes (further ++ given attempts) (after_attempts attempts (beginning extended)) ≡ nodes (given attempts) (after_attempts attempts (beginning extended))

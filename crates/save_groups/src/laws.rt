@@ -2,6 +2,7 @@
 ghost use Rattle.std.specs.Prelude.{◌≡◌};
 ghost use Rattle.save_groups.specs.Calls.{CallsLaw, SavesLaw, LevelsLaw, GivenLaw};
 ghost use Rattle.save_groups.specs.Examples.{NodesAreCounted};
+ghost use Rattle.save_groups.specs.Nodes.{FurtherKeysLaw, GivenKeysLaw};
 ghost use Rattle.tokens.specs.Parameters.{first_dimension_place, first_glue_place, first_token_place, first_extended_place, everyeof_place, all_parameter_count, tolerance_place, mag_place, time_place, day_place, month_place, year_place, maxdeadcycles_place, hangafter_place, escapechar_place, endlinechar_place};
 
 use crate::parameters::{
@@ -30,9 +31,12 @@ pub fn given_law()
     ensures { GivenLaw }
 {}
 
-/// How many nodes the registers from 256 on take, on examples.
+/// How many nodes the registers from 256 on take: on examples, and that keys in the list whose entries have their
+/// values of the start, as those that no call gave a value, change nothing.
 pub fn nodes_law()
-    ensures { NodesAreCounted }
+    ensures counted { NodesAreCounted }
+    ensures further { FurtherKeysLaw }
+    ensures given { GivenKeysLaw }
 {}
 
 /// The places of parameters are those of their names (`tokens`, `parameters_have_their_places`).

@@ -66,13 +66,13 @@ impl<L: Ledger> Groups<L> {
         Ok(())
     }
 
-    /// Lets a token wait for the end of the innermost group, if there is one.
-    fn wait(&mut self, token: Token) -> Result<bool, AllocError> {
+    /// Lets a token wait for the end of the innermost group.
+    fn wait(&mut self, token: Token) -> Result<(), Fail> {
         if self.env.level() == 1 {
-            return Ok(false);
+            return Err("no group".into());
         }
         self.env.after_group(token)?;
-        Ok(true)
+        Ok(())
     }
 
     /// Assigns to an entry that both modes have.

@@ -6,6 +6,7 @@ use super::content::NumberAt::Count;
 use super::script::Step::{Begin, BeginMany, End, EndMany, Full, Holds, Kind, Level, Local, Saves};
 use super::script::play;
 use super::{Groups, SEMI_SIMPLE};
+use crate::Left;
 use std::alloc::Global;
 use std::marker::Brand;
 use std::process::Abort;
@@ -14,15 +15,15 @@ use std::test::Fail;
 use tokens::{NameId, Token};
 
 /// Lets tokens wait, each in turn.
-fn wait_all<L: Ledger>(
-    rt: &impl Abort,
-    groups: &mut Groups<L>,
-    tokens: &[Token],
-) -> Result<(), Fail> {
+fn wait_all<L: Ledger>(groups: &mut Groups<L>, tokens: &[Token]) -> Result<(), Fail> {
     for token in tokens {
-        assert!(rt; groups.wait(*token)?);
+        groups.wait(*token)?;
     }
     Ok(())
+}
+
+fn tells(left: &Left, kind: u8, line: u32, after: &[Token]) -> bool {
+    left.kind == kind && left.line == line && left.after.as_slice() == after
 }
 
 /// Ends a group, and looks for what is told of it.
@@ -34,9 +35,7 @@ fn end_with<L: Ledger>(
     after: &[Token],
 ) -> Result<(), Fail> {
     let left = groups.leave().ok_or("no group")?;
-    assert_eq!(rt; left.kind, kind);
-    assert_eq!(rt; left.line, line);
-    assert_eq!(rt; left.after.as_slice(), after);
+    assert!(rt; tells(&left, kind, line, after));
     Ok(())
 }
 
@@ -52,15 +51,15 @@ const TILDE: Token = Token::Active(b'~');
 /// A group with a token of its own.
 fn group_inside<L: Ledger>(rt: &impl Abort, groups: &mut Groups<L>) -> Result<(), Fail> {
     groups.env.enter(SEMI_SIMPLE, 19)?;
-    wait_all(rt, groups, &[TILDE])?;
+    wait_all(groups, &[TILDE])?;
     end_with(rt, groups, SEMI_SIMPLE, 19, &[TILDE])
 }
 
 /// What happens in a group with tokens before and behind one inside.
 fn inside_a_group<L: Ledger>(rt: &impl Abort, groups: &mut Groups<L>) -> Result<(), Fail> {
-    wait_all(rt, groups, &[RELAX, LETTER])?;
+    wait_all(groups, &[RELAX, LETTER])?;
     group_inside(rt, groups)?;
-    wait_all(rt, groups, &[TILDE, RELAX])
+    wait_all(groups, &[TILDE, RELAX])
 }
 
 fn group_outside<L: Ledger>(rt: &impl Abort, groups: &mut Groups<L>) -> Result<(), Fail> {

@@ -1,5 +1,6 @@
 //! Scripts: what is done to environments that are new, and what is then seen of them.
-ghost use Rattle.std.specs.Prelude.{◌≡◌, ◌<◌};
+ghost use Rattle.std.specs.Prelude.{◌≡◌, ◌<◌, false, IsTrue};
+ghost use Rattle.save_groups.specs.Keys.{is_key, holds_meaning};
 
 use super::content::{Content, FIRST_NAME, NumberAt, give, holds, number_key};
 use super::{Groups, SEMI_SIMPLE, means, name};
@@ -126,17 +127,25 @@ fn end<L: Ledger>(groups: &mut Groups<L>, count: u32) -> Result<bool, Fail> {
     Ok(true)
 }
 
+/// One of the names behind the primitives.
+fn name_behind(n: u32) -> Key
+    ensures key { IsTrue (is_key false result) }
+    ensures kind { IsTrue (holds_meaning result) }
+{
+    name(FIRST_NAME + u64::from(n))
+}
+
 fn give_names<L: Ledger>(groups: &mut Groups<L>, count: u32) -> Result<bool, Fail> {
     for n in 0..count {
         let letter = Value::Meaning(Meaning::CharDef(65));
-        groups.set(name(FIRST_NAME + u64::from(n)), letter, Scope::Local)?;
+        groups.set(name_behind(n), letter, Scope::Local)?;
     }
     Ok(true)
 }
 
 fn are_undefined(env: &Env, count: u32) -> bool {
     for n in 0..count {
-        if !means(env, name(FIRST_NAME + u64::from(n)), &Meaning::Undefined) {
+        if !means(env, name_behind(n), &Meaning::Undefined) {
             return false;
         }
     }

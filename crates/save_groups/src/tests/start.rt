@@ -47,11 +47,17 @@ const CODES: &[(u8, u8, i32)] = &[
     (DELIMITER, b'A', -1),
 ];
 
-fn starting_codes(rt: &impl Abort, env: &Env) {
-    for (table, byte, wanted) in CODES {
-        let (table, byte) = (*table, *byte);
-        assert!(rt; table < 6);
-        assert_eq!(rt; number(env, Key::Code { table, byte }), *wanted);
+fn code(env: &Env, table: u8, byte: u8) -> Option<i32> {
+    if table < 6 {
+        Some(number(env, Key::Code { table, byte }))
+    } else {
+        None
+    }
+}
+
+fn starting_codes(rt: &impl Abort, env: &Env, rows: &[(u8, u8, i32)]) {
+    for (table, byte, wanted) in rows {
+        assert_eq!(rt; code(env, *table, *byte), Some(*wanted));
     }
 }
 
@@ -69,18 +75,24 @@ const PARAMETERS: &[(u8, i32)] = &[
     (FIRST_DIMENSION, 0),
 ];
 
-fn starting_parameters(rt: &impl Abort, env: &Env) {
-    for (place, wanted) in PARAMETERS {
-        let place = *place;
-        assert!(rt; place < FIRST_GLUE);
-        assert_eq!(rt; number(env, Key::Parameter(place)), *wanted);
+fn parameter(env: &Env, place: u8) -> Option<i32> {
+    if place < FIRST_GLUE {
+        Some(number(env, Key::Parameter(place)))
+    } else {
+        None
+    }
+}
+
+fn starting_parameters(rt: &impl Abort, env: &Env, rows: &[(u8, i32)]) {
+    for (place, wanted) in rows {
+        assert_eq!(rt; parameter(env, *place), Some(*wanted));
     }
 }
 
 fn starting_tables(rt: &impl Abort, alloc: Global, extended: bool) -> Result<(), Fail> {
     let env = Env::new(alloc, extended)?;
-    starting_codes(rt, &env);
-    starting_parameters(rt, &env);
+    starting_codes(rt, &env, CODES);
+    starting_parameters(rt, &env, PARAMETERS);
     Ok(())
 }
 
