@@ -4,6 +4,9 @@
 //! A list of nodes is a `Vec<Node>` while it is built, and an `Items<Node>` inside a node. `Items::from_vec` makes the
 //! one the other and copies nothing; `pop`, `push` and `append` of `Items` move nodes, whole trees with them.
 //!
+//! Copying, measuring, printing and dropping take room on the stack for each level of a tree: with 8 MB, lists nested
+//! 10,000 deep were tried, and 20,000 were too many.
+//!
 //! The parts of a node that hold nodes are generic in these, so that contracts see each as a plain record of its
 //! fields: a `BoxNode` is a `BoxNode<Items<Node>>`.
 #![tactic(auto)]
