@@ -9,7 +9,7 @@ use Rattle.world.specs.declared.world.WorldError.{WorldError}
 use Rattle.world.specs.declared.world.WorldError.TheVariants.{Failed, OutOfMemory}
 use Rattle.world.specs.InTurn.{Gave, gave_more, read_again, ReadsAll, read_all, read_refused, read_too_often, read_without_memory, Took, took_more, wrote_again, WritesAll, wrote_all, write_refused, write_took_nothing, wrote_too_often}
 use Rattle.world.specs.Refusal.{refusal_of}
-use Rattle.world.specs.Trace.{Call, read_from, wrote_to, Did}
+use Rattle.world.specs.Trace.{Call, SameKind, read_from, wrote_to, Did}
 
 pub some_count : (n : ℕ) → (n ≡ 0 → ⊥) → 0 < n
 some_count zero h = absurd (h refl)
@@ -69,29 +69,29 @@ module _ {S F : Type 0} (did : S → Call F → S → Type 0) (first : S) where
   abbrev pub EndsWriting : Outlet F → List ℕ → Result (Unit {0}) WorldError → S → Type 0
   EndsWriting outlet bytes result last = (calls : List (Call F)) × Did did first calls last × WritesAll outlet bytes calls result
 
-  pub one_more_write : (outlet : Outlet F) (bytes : List ℕ) (n count : ℕ) (rest : List ℕ) (now next : S) (before after : Outlet F) → HasWritten outlet bytes n rest now before → 0 < count → did now (wrote_to before rest (Ok count) after) next → HasWritten outlet bytes (n + 1) (take (length rest - count) (drop count rest)) next after
-  one_more_write outlet bytes n count rest now next before after h some answered =
+  pub one_more_write : (outlet : Outlet F) (bytes : List ℕ) (n count : ℕ) (rest : List ℕ) (now next : S) (before after : Outlet F) → HasWritten outlet bytes n rest now before → 0 < count → did now (wrote_to before rest (Ok count) after) next → SameKind before after → HasWritten outlet bytes (n + 1) (take (length rest - count) (drop count rest)) next after
+  one_more_write outlet bytes n count rest now next before after h some answered same =
       let call : Call F = wrote_to before rest (Ok count) after in
-      (h.0 ++ call ∷ [], one_longer h.0 call n h.1, did_more first now next h.0 call h.2 answered, subst (λ xs. Took outlet bytes (h.0 ++ call ∷ []) xs after) (sym (take_rest rest count)) (took_more count after some h.3))
+      (h.0 ++ call ∷ [], one_longer h.0 call n h.1, did_more first now next h.0 call h.2 answered, subst (λ xs. Took outlet bytes (h.0 ++ call ∷ []) xs after) (sym (take_rest rest count)) (took_more count after same some h.3))
 
-  pub again_written : (outlet : Outlet F) (bytes : List ℕ) (n : ℕ) (rest : List ℕ) (now next : S) (before after : Outlet F) (error : Error) → HasWritten outlet bytes n rest now before → did now (wrote_to before rest (Err error) after) next → error_kind error ≡ Interrupted → HasWritten outlet bytes (n + 1) rest next after
-  again_written outlet bytes n rest now next before after error h answered is =
+  pub again_written : (outlet : Outlet F) (bytes : List ℕ) (n : ℕ) (rest : List ℕ) (now next : S) (before after : Outlet F) (error : Error) → HasWritten outlet bytes n rest now before → did now (wrote_to before rest (Err error) after) next → SameKind before after → error_kind error ≡ Interrupted → HasWritten outlet bytes (n + 1) rest next after
+  again_written outlet bytes n rest now next before after error h answered same is =
       let call : Call F = wrote_to before rest (Err error) after in
-      (h.0 ++ call ∷ [], one_longer h.0 call n h.1, did_more first now next h.0 call h.2 answered, wrote_again error after is h.3)
+      (h.0 ++ call ∷ [], one_longer h.0 call n h.1, did_more first now next h.0 call h.2 answered, wrote_again error after same is h.3)
 
   pub all_written : (outlet : Outlet F) (bytes : List ℕ) (n : ℕ) (rest : List ℕ) (now : S) (before : Outlet F) → HasWritten outlet bytes n rest now before → n ≤ 2 ^ 40 → rest ≡ [] → EndsWriting outlet bytes (Ok tt) now
   all_written outlet bytes n rest now before h below none =
       (h.0, h.2, wrote_all (subst (λ r. Took outlet bytes h.0 r before) none h.3) (subst (λ k. k ≤ 2 ^ 40) (sym h.1) below))
 
-  pub refused_write : (outlet : Outlet F) (bytes : List ℕ) (n : ℕ) (rest : List ℕ) (now next : S) (before after : Outlet F) (error : Error) (refusal : WorldError) → HasWritten outlet bytes n rest now before → n < 2 ^ 40 → 0 < length rest → did now (wrote_to before rest (Err error) after) next → (error_kind error ≡ Interrupted → ⊥) → refusal ≡ refusal_of (error_kind error) → EndsWriting outlet bytes (Err refusal) next
-  refused_write outlet bytes n rest now next before after error refusal h below some answered not_interrupted is =
+  pub refused_write : (outlet : Outlet F) (bytes : List ℕ) (n : ℕ) (rest : List ℕ) (now next : S) (before after : Outlet F) (error : Error) (refusal : WorldError) → HasWritten outlet bytes n rest now before → n < 2 ^ 40 → 0 < length rest → did now (wrote_to before rest (Err error) after) next → SameKind before after → (error_kind error ≡ Interrupted → ⊥) → refusal ≡ refusal_of (error_kind error) → EndsWriting outlet bytes (Err refusal) next
+  refused_write outlet bytes n rest now next before after error refusal h below some answered same not_interrupted is =
       let call : Call F = wrote_to before rest (Err error) after in
-      (h.0 ++ call ∷ [], did_more first now next h.0 call h.2 answered, subst (λ r. WritesAll outlet bytes (h.0 ++ call ∷ []) (Err r)) (sym is) (write_refused error after not_interrupted some h.3 (subst (λ k. k < 2 ^ 40) (sym h.1) below)))
+      (h.0 ++ call ∷ [], did_more first now next h.0 call h.2 answered, subst (λ r. WritesAll outlet bytes (h.0 ++ call ∷ []) (Err r)) (sym is) (write_refused error after same not_interrupted some h.3 (subst (λ k. k < 2 ^ 40) (sym h.1) below)))
 
-  pub nothing_written : (outlet : Outlet F) (bytes : List ℕ) (n : ℕ) (rest : List ℕ) (now next : S) (before after : Outlet F) → HasWritten outlet bytes n rest now before → n < 2 ^ 40 → 0 < length rest → did now (wrote_to before rest (Ok 0) after) next → EndsWriting outlet bytes (Err Failed) next
-  nothing_written outlet bytes n rest now next before after h below some answered =
+  pub nothing_written : (outlet : Outlet F) (bytes : List ℕ) (n : ℕ) (rest : List ℕ) (now next : S) (before after : Outlet F) → HasWritten outlet bytes n rest now before → n < 2 ^ 40 → 0 < length rest → did now (wrote_to before rest (Ok 0) after) next → SameKind before after → EndsWriting outlet bytes (Err Failed) next
+  nothing_written outlet bytes n rest now next before after h below some answered same =
       let call : Call F = wrote_to before rest (Ok 0) after in
-      (h.0 ++ call ∷ [], did_more first now next h.0 call h.2 answered, write_took_nothing after some h.3 (subst (λ k. k < 2 ^ 40) (sym h.1) below))
+      (h.0 ++ call ∷ [], did_more first now next h.0 call h.2 answered, write_took_nothing after same some h.3 (subst (λ k. k < 2 ^ 40) (sym h.1) below))
 
   pub written_in_vain : (outlet : Outlet F) (bytes : List ℕ) (rest : List ℕ) (now : S) (before : Outlet F) → HasWritten outlet bytes (2 ^ 40) rest now before → 0 < length rest → EndsWriting outlet bytes (Err Failed) now
   written_in_vain outlet bytes rest now before h some = (h.0, h.2, wrote_too_often some h.3 h.1)

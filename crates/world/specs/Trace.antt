@@ -17,6 +17,13 @@ abbrev pub Did : {S F : Type 0} → (S → Call F → S → Type 0) → S → Li
 Did did first [] last = last ≡ first
 Did {S} did first (call ∷ calls) last = (next : S) × did first call next × Did did next calls last
 
+-- the terminal stays the terminal, and a file a file
+abbrev pub SameKind : {F : Type 0} → Outlet F → Outlet F → Type 0
+SameKind Terminal Terminal = Unit {0}
+SameKind Terminal (File next) = ⊥
+SameKind (File file) Terminal = ⊥
+SameKind (File file) (File next) = Unit {0}
+
 -- what is known of the bytes that were written to an outlet. Nothing is known of the terminal
 abbrev pub contents_of : {F : Type 0} → (F → Option (List ℕ)) → Outlet F → Option (List ℕ)
 contents_of contents Terminal = None

@@ -25,7 +25,7 @@ pub trait Disk: Drop {
     ghost use Rattle.std.specs.Io.{ReadsAtMost, WritesAtMost};
     ghost use Rattle.std.specs.Io.KnownBytes.{ReadConsumes, WriteAppends};
     ghost use Rattle.world.specs.InTurn.{given};
-    ghost use Rattle.world.specs.Trace.{Call, opened, read_from, wrote_to, contents_of};
+    ghost use Rattle.world.specs.Trace.{Call, SameKind, opened, read_from, wrote_to, contents_of};
 
     /// An open file.
     type File: Drop;
@@ -51,6 +51,7 @@ pub trait Disk: Drop {
     /// Writes a portion of the bytes, and answers how many of them.
     fn write_part(&mut self, outlet: &mut Outlet<Self::File>, bytes: &[u8]) -> io::Result<usize>
         ensures answered { did self.old (wrote_to outlet.old bytes.now result outlet.new) self.new }
+        ensures stays { SameKind outlet.old outlet.new }
         ensures bound { WritesAtMost result bytes.now }
         ensures bytes { WriteAppends (contents_of contents outlet.old) (contents_of contents outlet.new) result bytes.now };
 }

@@ -15,10 +15,11 @@ fn many_bytes(alloc: Global) -> Result<Vec<u8>, Fail> {
     Ok(vec![in alloc; b'y'; MANY]?)
 }
 
-/// Keeps a large file under a long name, in two portions, and fetches it.
+/// Makes a large file under a long name, in two portions, and fetches it.
 fn keeps_large_files<W: World>(rt: &impl Abort, alloc: Global, world: &mut W) -> Result<(), Fail> {
     let name = LONG_NAME;
     assert!(rt; is_good_name(&name));
+    world.create(&name)?;
     world.append(&name, &[b'a'; 255])?;
     world.append(&name, &many_bytes(alloc)?)?;
     let fetched = world.fetch(alloc, &name)?.ok_or("absent")?;
@@ -72,11 +73,8 @@ fn memory_world_keeps_large_files(rt: HostRuntime) -> Result<(), Fail> {
 fn folder_keeps_large_files(rt: HostRuntime) -> Result<(), Fail> {
     let alloc = rt.alloc();
     let mut world = DirWorld::new(rt.clone()?, alloc);
-    let name = LONG_NAME;
-    assert!(rt; is_good_name(&name));
-    world.create(&name)?;
     keeps_large_files(&rt, alloc, &mut world)?;
-    let text = str::from_utf8(&name).map_err(|_| "no text")?;
+    let text = str::from_utf8(&LONG_NAME).map_err(|_| "no text")?;
     fs::remove_file(&rt, text)?;
     Ok(())
 }
@@ -138,4 +136,16 @@ fn fetches_and_appends_have_numbers_of_their_own(rt: HostRuntime) -> Result<(), 
     answers(&rt, alloc, &mut world, b"afsaffaf", b"!...!.!.")?;
     assert_eq!(rt; world.file(b"a.tex"), Some(b"more".as_slice()));
     Ok(())
+}
+
+#[test]
+fn a_thousand_numbers_are_kept(rt: HostRuntime) -> Result<(), Fail> {
+    let alloc = rt.alloc();
+    let mut world = MemWorld::new(alloc);
+    for number in 2..1_002 {
+        world.fail(number)?;
+        world.fail_fetch(number)?;
+        world.fail_append(number)?;
+    }
+    answers(&rt, alloc, &mut world, b"fcas", b".!!!")
 }

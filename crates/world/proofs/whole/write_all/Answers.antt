@@ -19,7 +19,7 @@ returns-then-is_empty-clause-calls g c =
 pub returns-in-Ok-eq0-clause-calls : goal.returns-in-Ok-eq0-clause-calls
 returns-in-Ok-eq0-clause-calls g c =
     let some : 0 < length c.loop.rest.now = search rules in
-    nothing_written g.D.Disk.did c.args.disk.now c.args.outlet.now c.args.bytes.now c.loop.counter c.loop.rest.now c.loop.disk _ c.loop.outlet _ c.loop.invariant.1 c.loop-test.true some (subst (λ count. g.D.Disk.did c.loop.disk (wrote_to c.loop.outlet c.loop.rest.now (Ok count) c.write_part.new.outlet) c.write_part.new.self) c.in-Ok-eq0.field-0-test c.in-Ok-eq0.ensures.answered)
+    nothing_written g.D.Disk.did c.args.disk.now c.args.outlet.now c.args.bytes.now c.loop.counter c.loop.rest.now c.loop.disk _ c.loop.outlet _ c.loop.invariant.1 c.loop-test.true some (subst (λ count. g.D.Disk.did c.loop.disk (wrote_to c.loop.outlet c.loop.rest.now (Ok count) c.write_part.new.outlet) c.write_part.new.self) c.in-Ok-eq0.field-0-test c.in-Ok-eq0.ensures.answered) c.in-Ok-eq0.ensures.stays
 
 pub returns-in-Ok-eq0-clause-refused : goal.returns-in-Ok-eq0-clause-refused
 returns-in-Ok-eq0-clause-refused g c =
@@ -31,7 +31,7 @@ returns-in_default g c =
     let (done, split, appended) = c.loop.invariant.0 in
     let some : 0 < length c.loop.rest.now = search rules in
     record {
-      calls = refused_write g.D.Disk.did c.args.disk.now c.args.outlet.now c.args.bytes.now c.loop.counter c.loop.rest.now c.loop.disk _ c.loop.outlet _ c.in-Err.error c.refusal.result c.loop.invariant.1 c.loop-test.true some c.in-Err.ensures.answered (λ e. c.in_default.not-Interrupted (c.kind.ensures ∙ e)) c.refusal.ensures;
+      calls = refused_write g.D.Disk.did c.args.disk.now c.args.outlet.now c.args.bytes.now c.loop.counter c.loop.rest.now c.loop.disk _ c.loop.outlet _ c.in-Err.error c.refusal.result c.loop.invariant.1 c.loop-test.true some c.in-Err.ensures.answered c.in-Err.ensures.stays (λ e. c.in_default.not-Interrupted (c.kind.ensures ∙ e)) c.refusal.ensures;
       taken = tt;
       refused = took_part _ _ _ _ _ split (Appends-kept _ _ _ done appended c.in-Err.ensures.bytes);
     }
@@ -44,8 +44,8 @@ loop-preserved g c =
     λ rest. ((taken : List ℕ) × (c.args.bytes.now ≡ taken ++ rest.now) × Appends (contents_of g.D.Disk.contents c.args.outlet.now) (contents_of g.D.Disk.contents c.write_part.new.outlet) taken)
     × HasWritten g.D.Disk.did c.args.disk.now c.args.outlet.now c.args.bytes.now (c.loop.counter + 1) rest.now c.write_part.new.self c.write_part.new.outlet in
     elim c.match-write_part.branch [
-      | in-Ok w ↦ subst stays (sym w.rest-is) ((done ++ take w.in-Ok.count c.loop.rest.now, more_done_of _ done _ w.in-Ok.count split, Appends-trans _ _ _ _ _ appended w.in-Ok.ensures.bytes), one_more_write g.D.Disk.did c.args.disk.now c.args.outlet.now c.args.bytes.now c.loop.counter w.in-Ok.count c.loop.rest.now c.loop.disk _ c.loop.outlet _ written (some_count _ w.in-Ok.count-test.1) w.in-Ok.ensures.answered)
-      | in-Err+in-Interrupted w ↦ subst stays (sym w.rest-is) ((done, split, Appends-kept _ _ _ done appended w.in-Err.ensures.bytes), again_written g.D.Disk.did c.args.disk.now c.args.outlet.now c.args.bytes.now c.loop.counter c.loop.rest.now c.loop.disk _ c.loop.outlet _ w.in-Err.error written w.in-Err.ensures.answered (sym w.kind.ensures ∙ w.in-Interrupted.is))
+      | in-Ok w ↦ subst stays (sym w.rest-is) ((done ++ take w.in-Ok.count c.loop.rest.now, more_done_of _ done _ w.in-Ok.count split, Appends-trans _ _ _ _ _ appended w.in-Ok.ensures.bytes), one_more_write g.D.Disk.did c.args.disk.now c.args.outlet.now c.args.bytes.now c.loop.counter w.in-Ok.count c.loop.rest.now c.loop.disk _ c.loop.outlet _ written (some_count _ w.in-Ok.count-test.1) w.in-Ok.ensures.answered w.in-Ok.ensures.stays)
+      | in-Err+in-Interrupted w ↦ subst stays (sym w.rest-is) ((done, split, Appends-kept _ _ _ done appended w.in-Err.ensures.bytes), again_written g.D.Disk.did c.args.disk.now c.args.outlet.now c.args.bytes.now c.loop.counter c.loop.rest.now c.loop.disk _ c.loop.outlet _ w.in-Err.error written w.in-Err.ensures.answered w.in-Err.ensures.stays (sym w.kind.ensures ∙ w.in-Interrupted.is))
     ]
 
 pub returns-then-is_empty-2-clause-calls : goal.returns-then-is_empty-2-clause-calls
