@@ -1,5 +1,5 @@
 -- What holds of all calls that may ask, whatever they do.
-use Rattle.std.specs.Prelude.{◌≡◌, ℕ, ◌<◌, Bool, true, false, Result, Ok, Err}
+use Rattle.std.specs.Prelude.{ℕ, ◌<◌, Bool, true, false, Result, Ok, Err}
 use Rattle.tokens.specs.declared.stop.Stop.{Stop}
 use Rattle.asking.specs.Leads.{Leads}
 use Rattle.asking.specs.Loops.{rounds}

@@ -16,7 +16,7 @@ use Rattle.asking.specs.Turns.{turns}
 use Rattle.stomach.specs.declared.ending.Exit.{Exit}
 use Rattle.stomach.specs.declared.ending.Exit.TheVariants as exits
 use Rattle.stomach.specs.declared.state.State.{State}
-use Rattle.stomach.specs.Ending.{Outcome, ending, outcome_at, failed_in, text_at, EndsBy, IsCutRun, exit_by, output_by, cut_short, exit_after, ended_well, ended_early}
+use Rattle.stomach.specs.Ending.{ending, outcome_at, failed_in, text_at, EndsBy, IsCutRun, exit_by, output_by, cut_short, exit_after, ended_well, ended_early}
 use Rattle.stomach.specs.Faults.{ReadFaultWhere, WriteFaultWhere}
 use Rattle.stomach.specs.Running.{DoesAll, Runs}
 

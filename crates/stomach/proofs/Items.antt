@@ -1,6 +1,6 @@
 -- A list that stands with its front at the end of a vector.
-use Rattle.std.proofs.Common.{◌≡◌, ℕ, ◌+◌, ◌<◌, List, [], ◌∷◌, ◌++◌, Some, None, Result, Ok, Err, ap, ◌∙◌, sym, refl, length, take, drop, get_or, set, arith, zero, suc, subst, length-set, ◌-◌, ◌≤◌}
-use Rattle.std.specs.Prelude.{reverse, Bool, true, false, not, ◌==◌, ◌*◌, cond, OnOk, IfOk}
+use Rattle.std.proofs.Common.{◌≡◌, ℕ, ◌+◌, ◌<◌, List, [], ◌∷◌, ◌++◌, Result, Ok, Err, ap, ◌∙◌, sym, refl, length, take, drop, get_or, set, arith, zero, suc, subst, length-set, ◌-◌, ◌≤◌}
+use Rattle.std.specs.Prelude.{reverse, Bool, true, false, not, ◌*◌, cond, OnOk, IfOk}
 use Rattle.std.proofs.lemmas.Bool.Decides.{nat_tests}
 use Rattle.std.proofs.lemmas.List.Sorted.{sum_by-IsPermutation, IsPermutation-reverse}
 use Rattle.std.proofs.lemmas.List.{reverse-append, take_all}

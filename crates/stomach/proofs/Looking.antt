@@ -1,5 +1,5 @@
 -- How the tokens of a source follow from what the calls of its eye answer.
-use Rattle.std.proofs.Common.{◌≡◌, ℕ, ℤ, true, false, List, Option, None, Result, Ok, Err, ap, ◌∙◌, sym, subst, refl}
+use Rattle.std.proofs.Common.{◌≡◌, ℕ, ℤ, true, false, List, Option, Result, Ok, Err, ap, ◌∙◌, sym, subst, refl}
 use Rattle.std.specs.Prelude.{Bool, nat_lt, [], ◌∷◌, length, if◌then◌else◌}
 use Rattle.tokens.specs.Budget.{Allowance, is_spent}
 use Rattle.tokens.specs.Ends.{Ends}

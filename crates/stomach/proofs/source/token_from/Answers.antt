@@ -1,8 +1,8 @@
-use Rattle.std.proofs.Common.{◌+◌, ◌≤◌, true, false, Ok, Err, None, arith, sym, ◌∙◌}
+use Rattle.std.proofs.Common.{true, false, Ok, Err, None, arith, sym, ◌∙◌}
 use Rattle.std.specs.Int.{w32}
 use Rattle.std.proofs.lemmas.Int.{to_z-of_z}
 use Rattle.stomach.specs.Again.{Ended-by}
-use Rattle.stomach.specs.Take.{looking, token_from}
+use Rattle.stomach.specs.Take.{looking}
 use Rattle.stomach.proofs.Looking.{by_line, glance_does, from_start}
 use Rattle.stomach.proofs.source.token_from.Goals as goal
 
