@@ -72,6 +72,20 @@ const NUMBERS: &[(&[Item], i32)] = &[
         ],
         50,
     ),
+    (
+        &[
+            Sign(b'('),
+            Sign(b'('),
+            Sign(b'('),
+            Sign(b'('),
+            Int(1),
+            Sign(b')'),
+            Sign(b')'),
+            Sign(b')'),
+            Sign(b')'),
+        ],
+        1,
+    ),
     (&[Int(1234), Sign(b'*'), Int(2)], 2468),
     (&[Int(2), Sign(b'*'), Int(1234), Sign(b'/'), Int(3)], 823),
     (
