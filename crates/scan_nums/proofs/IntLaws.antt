@@ -21,13 +21,13 @@ and_last : (a : Bool) → (a && true) ≡ (true && a)
 and_last true = refl
 and_last false = refl
 
-are_leading-append : (taken : List Taken) (x : Taken) → are_leading (taken ++ x ∷ []) ≡ (are_leading taken && is_leading x)
+pub are_leading-append : (taken : List Taken) (x : Taken) → are_leading (taken ++ x ∷ []) ≡ (are_leading taken && is_leading x)
 are_leading-append [] x = and_last (is_leading x)
 are_leading-append (y ∷ ys) x =
     let F : Bool → Bool = λ b. is_leading y && b in
     ap F (are_leading-append ys x) ∙ and_assoc (is_leading y) (are_leading ys) (is_leading x)
 
-wants_character-append : (taken : List Taken) (x : Taken) → wants_character (taken ++ x ∷ []) ≡ (are_leading taken && is_accent x)
+pub wants_character-append : (taken : List Taken) (x : Taken) → wants_character (taken ++ x ∷ []) ≡ (are_leading taken && is_accent x)
 wants_character-append [] x = refl
 wants_character-append (y ∷ []) x = and_true (is_leading y) (is_accent x)
 wants_character-append (y ∷ z ∷ zs) x =

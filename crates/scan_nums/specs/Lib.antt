@@ -1,8 +1,15 @@
 pub mod Awaited
 pub mod Constants
+pub mod Decimals
+pub mod DimenScan
+pub mod DimenStanding
+pub mod Dimension
 pub mod IntScan
 pub mod IntStanding
+pub mod Keywords
 pub mod Number
 pub mod Starts
 pub mod Taken
+pub mod UnitWords
+pub mod Units
 pub mod WholeNumber

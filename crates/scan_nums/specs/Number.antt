@@ -31,12 +31,26 @@ IsNegatable (number_variants.MuGlue g) = IsNegatableGlue g
 -- \dimexpr 1, \glueexpr 2 and \muexpr 3
 abbrev pub is_of_phrase : phrase.Phrase → number.Number → Bool
 is_of_phrase phrase_variants.Int (number_variants.Int _) = true
+is_of_phrase phrase_variants.Int (number_variants.Dimen _) = false
+is_of_phrase phrase_variants.Int (number_variants.Glue _) = false
+is_of_phrase phrase_variants.Int (number_variants.MuGlue _) = false
+is_of_phrase phrase_variants.Dimen (number_variants.Int _) = false
 is_of_phrase phrase_variants.Dimen (number_variants.Dimen _) = true
+is_of_phrase phrase_variants.Dimen (number_variants.Glue _) = false
+is_of_phrase phrase_variants.Dimen (number_variants.MuGlue _) = false
+is_of_phrase phrase_variants.Mu (number_variants.Int _) = false
 is_of_phrase phrase_variants.Mu (number_variants.Dimen _) = true
+is_of_phrase phrase_variants.Mu (number_variants.Glue _) = false
+is_of_phrase phrase_variants.Mu (number_variants.MuGlue _) = false
+is_of_phrase phrase_variants.Glue (number_variants.Int _) = false
+is_of_phrase phrase_variants.Glue (number_variants.Dimen _) = false
 is_of_phrase phrase_variants.Glue (number_variants.Glue _) = true
+is_of_phrase phrase_variants.Glue (number_variants.MuGlue _) = false
+is_of_phrase phrase_variants.MuGlue (number_variants.Int _) = false
+is_of_phrase phrase_variants.MuGlue (number_variants.Dimen _) = false
+is_of_phrase phrase_variants.MuGlue (number_variants.Glue _) = false
 is_of_phrase phrase_variants.MuGlue (number_variants.MuGlue _) = true
 is_of_phrase (phrase_variants.Expr k) (number_variants.Int _) = k == 0
 is_of_phrase (phrase_variants.Expr k) (number_variants.Dimen _) = k == 1
 is_of_phrase (phrase_variants.Expr k) (number_variants.Glue _) = k == 2
 is_of_phrase (phrase_variants.Expr k) (number_variants.MuGlue _) = k == 3
-is_of_phrase _ _ = false

@@ -3,6 +3,7 @@
 -- else by its meaning.
 use Rattle.std.specs.Prelude.{◌≡◌, ℕ, ◌-◌, Bool, false, ◌==◌, ◌&&◌, ◌||◌, nat_le, Option, Some, None, [], ◌∷◌, map, codes, if◌then◌else◌}
 use Rattle.tokens.specs.Names.{name_at}
+use Rattle.tokens.specs.Codes.{pretolerance_code, thickmuskip_code, count_code, dimen_code, skip_code, muskip_code, wd_code, skewchar_code, parshape_code, badness_code, gluestretch_code, savinghyphcodes_code, numexpr_code, muexpr_code}
 use Rattle.tokens.specs.Primitives.{primitive_names}
 use Rattle.tokens.specs.declared.token.Token.{Token}
 use Rattle.tokens.specs.declared.token.Token.TheVariants as token
@@ -55,33 +56,36 @@ is_from_to first last code = nat_le first code && nat_le code last
 -- \badness; \gluestretch to \savinghyphcodes. Token lists and fonts aren't among them
 abbrev pub is_asked : ℕ → Bool
 is_asked code =
-    is_from_to 37 130 code || (is_from_to 140 143 code || (is_from_to 145 156 code
-    || (is_from_to 160 178 code || is_from_to 342 373 code)))
+    is_from_to pretolerance_code thickmuskip_code code || (is_from_to count_code muskip_code code
+    || (is_from_to wd_code skewchar_code code || (is_from_to parshape_code badness_code code
+    || is_from_to gluestretch_code savinghyphcodes_code code)))
 
 -- \numexpr to \muexpr
 abbrev pub is_expression : ℕ → Bool
-is_expression code = is_from_to 338 341 code
+is_expression code = is_from_to numexpr_code muexpr_code code
 
 -- the names at the ends of these ranges
 abbrev pub AskedByName : Type 0
 AskedByName =
-    map (name_at primitive_names) (37 ∷ 130 ∷ 140 ∷ 143 ∷ 145 ∷ 156 ∷ 160 ∷ 178 ∷ 342 ∷ 373 ∷ 338 ∷ 341 ∷ [])
+    map (name_at primitive_names)
+    (pretolerance_code ∷ thickmuskip_code ∷ count_code ∷ muskip_code ∷ wd_code ∷ skewchar_code ∷ parshape_code
+    ∷ badness_code ∷ gluestretch_code ∷ savinghyphcodes_code ∷ numexpr_code ∷ muexpr_code ∷ [])
     ≡ codes "pretolerance" ∷ codes "thickmuskip" ∷ codes "count" ∷ codes "muskip" ∷ codes "wd" ∷ codes "skewchar"
     ∷ codes "parshape" ∷ codes "badness" ∷ codes "gluestretch" ∷ codes "savinghyphcodes" ∷ codes "numexpr"
     ∷ codes "muexpr" ∷ []
 
 abbrev pub start_of_primitive : ℕ → Start
 start_of_primitive code =
-    if is_expression code then Expression (code - 338)
+    if is_expression code then Expression (code - numexpr_code)
     else if is_asked code then Wanted (quantity code None)
     else Other
 
 -- a register that has a name of its own: it is asked for as \count, \dimen, \skip or \muskip of its number
 abbrev pub start_of_register : RegKind → ℕ → Start
-start_of_register kind.Count number = Wanted (quantity 140 (Some number))
-start_of_register kind.Dimen number = Wanted (quantity 141 (Some number))
-start_of_register kind.Skip number = Wanted (quantity 142 (Some number))
-start_of_register kind.Muskip number = Wanted (quantity 143 (Some number))
+start_of_register kind.Count number = Wanted (quantity count_code (Some number))
+start_of_register kind.Dimen number = Wanted (quantity dimen_code (Some number))
+start_of_register kind.Skip number = Wanted (quantity skip_code (Some number))
+start_of_register kind.Muskip number = Wanted (quantity muskip_code (Some number))
 start_of_register kind.Box number = Other
 start_of_register kind.Toks number = Other
 

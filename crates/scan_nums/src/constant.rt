@@ -1,5 +1,5 @@
 //! Constants: the digits of a whole number to one of three bases (`tex.web` 442 to 445).
-ghost use Rattle.std.specs.Prelude.{◌≡◌, ◌+◌, ◌*◌, ◌≤◌, true, min};
+ghost use Rattle.std.specs.Prelude.{◌≡◌, ◌+◌, ◌*◌, ◌≤◌, true, min, IfSome};
 ghost use Rattle.scan_nums.specs.Constants.{base, capped, digit_of, digit_of_character, last_figure, has_letters, signed};
 
 use tokens::Token;
@@ -71,6 +71,24 @@ pub fn digit_of(radix: Radix, token: Token) -> Option<u8>
 {
     match token {
         Token::Char { cat, byte } => digit_of_character(radix, cat, byte),
+        Token::Active(_) | Token::Name(_) | Token::Arg(_) | Token::Frozen(_) => None,
+    }
+}
+
+/// The value of the token where it is a figure.
+#[tactic(auto, unfolding(crate::specs::Constants::digit_of))]
+pub fn figure_of(token: Token) -> Option<u8>
+    ensures value { result ≡ digit_of Radix.Base10 token }
+    ensures small { IfSome result (λ digit. digit ≤ 9) }
+{
+    match token {
+        Token::Char { cat, byte } => {
+            if cat == OTHER && (b'0' <= byte && byte <= b'9') {
+                Some(byte - b'0')
+            } else {
+                None
+            }
+        }
         Token::Active(_) | Token::Name(_) | Token::Arg(_) | Token::Frozen(_) => None,
     }
 }

@@ -3,15 +3,22 @@
 //! them, and answers what is asked of quantities.
 #![tactic(auto)]
 
+pub use dimen_scan::DimenScan;
 pub use int_scan::IntScan;
 pub use number::{Number, Quantity};
 pub use verdict::{Phrase, Verdict};
 
 mod constant;
+mod decimals;
+mod dimen_scan;
+mod dimen_state;
+mod dimen_unit;
 mod int_scan;
+mod keyword;
 pub mod laws;
 mod number;
 mod start;
 #[cfg(test)]
 mod tests;
+mod unit;
 mod verdict;

@@ -1,6 +1,7 @@
 //! What a token is where a number may begin (`tex.web` 413 and 440 to 444).
 ghost use Rattle.std.specs.Prelude.{◌≡◌};
 ghost use Rattle.scan_nums.specs.Starts.{other_byte, byte_of, is_space, is_asked, start_of, start_of_meaning, start_of_primitive, start_of_register};
+ghost use Rattle.scan_nums.specs.Dimension.{is_point};
 
 use crate::number::Quantity;
 use tokens::{Meaning, RegKind, Token, codes};
@@ -64,6 +65,17 @@ pub fn other_byte(token: Token) -> Option<u8>
     match token {
         Token::Char { cat, byte } => if cat == OTHER { Some(byte) } else { None },
         Token::Active(_) | Token::Name(_) | Token::Arg(_) | Token::Frozen(_) => None,
+    }
+}
+
+/// Whether the token is a decimal point or comma.
+#[tactic(auto, unfolding(crate::specs::Dimension::is_point))]
+pub fn is_point(token: Token) -> bool
+    ensures { result ≡ is_point token }
+{
+    match other_byte(token) {
+        Some(byte) => byte == b'.' || byte == b',',
+        None => false,
     }
 }
 

@@ -1,14 +1,16 @@
-//! Hands a text to an automaton, byte after byte, and answers what it asks.
+//! Hands a text to an automaton, byte after byte, and answers what it asks. Tokens that are given back with a trouble
+//! that is passed over are handed in again.
 //!
 //! A letter has category 11, a space 10, any other byte 12. A byte behind `\` is a name of one character in a
 //! character constant, and has category 12. Five bytes stand for names: `@` for `\count9`, `$` for `\dimen9`,
 //! `&` for `\skip9`, `!` for `\muskip9` and `~` for `\relax`.
 
 ghost use Rattle.std.specs.Prelude.{◌≡◌, OnOk};
-ghost use Rattle.scan_nums.specs.Awaited.{Answer, NextToken, Resumption};
+ghost use Rattle.scan_nums.specs.Awaited.{awaited_after, Answer, NextToken, Resumption};
 ghost use Rattle.scan_nums.specs.IntScan.{awaits};
+ghost use Rattle.scan_nums.specs.DimenScan.{awaits as dimen_awaits};
 
-use crate::{IntScan, Number, Quantity, Verdict};
+use crate::{DimenScan, IntScan, Number, Quantity, Verdict};
 use scaled::{Glue, Order};
 use tokens::{Meaning, NameId, RegKind, Token, codes};
 
@@ -50,7 +52,7 @@ fn register(kind: RegKind) -> Meaning {
 }
 
 /// `\count9` is 1234, `\dimen9` 12.5pt, `\skip9` 3.25pt plus 1.5pt minus 2fil, `\muskip9` 4mu plus 1fil minus
-/// 1mu. All else is 0.
+/// 1mu. `\mag` is 2000, and each parameter of the font 655361 sp. All else is 0.
 pub fn value_of(quantity: Quantity) -> Number {
     match quantity.code {
         codes::COUNT => Number::Int(1234),
@@ -69,6 +71,8 @@ pub fn value_of(quantity: Quantity) -> Number {
             shrink: 65_536,
             shrink_order: Order::Normal,
         }),
+        codes::MAG => Number::Int(2000),
+        codes::FONTDIMEN => Number::Dimen(655_361),
         _ => Number::Int(0),
     }
 }
@@ -148,4 +152,61 @@ fn answered(scan: &mut IntScan, value: Number) -> Option<Reading>
         Verdict::Done(number) => found(number, 0, 0),
         _ => None,
     }
+}
+
+/// Reads a dimension by a reader that is new. `None` where the text ends too early, and for a trouble that isn't passed over.
+pub fn dimension(scan: &mut DimenScan, text: &[u8]) -> Option<Reading>
+    requires { dimen_awaits scan.old ≡ NextToken }
+{
+    let mut troubles: u8 = 0;
+    let mut place: usize = 0;
+    'tokens: for _ in 0..64u8 {
+        if place >= text.len() {
+            return None;
+        }
+        let byte = text[place];
+        place += 1;
+        let meaning = meaning_of(byte);
+        let verdict = scan.take(token_of(byte, false), &meaning);
+        match settled(scan, verdict) {
+            Ok((back, passed)) => {
+                place = place.saturating_sub(usize::from(back));
+                troubles = troubles.saturating_add(passed);
+            }
+            Err(reading) => return with_troubles(reading, troubles),
+        }
+    }
+    None
+}
+
+/// Answers and resumes until the next token is wanted, with the number of tokens that were given back and of troubles
+/// that were passed over, or until the reading ends.
+fn settled(scan: &mut DimenScan, first: Verdict) -> Result<(u8, u8), Option<Reading>>
+    requires { dimen_awaits scan.old ≡ awaited_after first }
+    ensures { OnOk result (dimen_awaits scan.new ≡ NextToken) }
+{
+    let mut verdict = first;
+    let mut returned: u8 = 0;
+    let mut troubles: u8 = 0;
+    'verdicts: for _ in 0..4u8 {
+        verdict = match verdict {
+            Verdict::Need => return Ok((returned, troubles)),
+            Verdict::Ask(quantity) => {
+                let value = value_of(quantity);
+                if !value.is_negatable() {
+                    return Err(None);
+                }
+                scan.answer(value)
+            }
+            Verdict::Pass { kind: _, back } => {
+                returned = returned.saturating_add(back);
+                troubles = troubles.saturating_add(1);
+                scan.resume()
+            }
+            Verdict::Done(number) => return Err(found(number, returned, troubles)),
+            Verdict::DoneBefore { number, back } => return Err(found(number, back, troubles)),
+            Verdict::Sub(_) | Verdict::Trouble(_) => return Err(None),
+        };
+    }
+    Err(None)
 }
