@@ -1,18 +1,18 @@
 -- How a word comes to the same, one turn after another.
-use Rattle.std.proofs.Common.{◌≡◌, ◌<◌, ◌≤◌, ◌+◌, ◌-◌, ◌*◌, ◌==◌, ℕ, zero, suc, Bool, true, false, cond, List, [], ◌∷◌, ◌++◌, length, Result, Ok, Err, refl, sym, ap, subst, ◌∙◌, arith}
+use Rattle.std.proofs.Common.{◌≡◌, ◌<◌, ◌≤◌, ◌+◌, ◌-◌, ℕ, zero, suc, Bool, true, false, cond, List, [], ◌∷◌, ◌++◌, length, Result, Ok, Err, refl, sym, ap, subst, ◌∙◌, arith}
 use Rattle.std.proofs.lemmas.Bool.Decides.{nat_tests}
 use Rattle.tokens.specs.declared.stop.Stop.{Stop}
 use Rattle.tokens.specs.declared.stop.Stop.TheVariants.{Spent}
-use Rattle.tokens.specs.Ends.{EndsAs, EndsAs-map}
+use Rattle.tokens.specs.Ends.{EndsAs-map}
 use Rattle.tokens.specs.Budget.{Allowance, is_spent, after_step}
 use Rattle.tfm.specs.declared.action.Action.{Action}
-use Rattle.tfm.specs.declared.action.Action.TheVariants.{Nothing, Kern, Lig}
+use Rattle.tfm.specs.declared.action.Action.TheVariants.{Lig}
 use Rattle.tfm.specs.FontMetrics.{FontMetrics}
 use Rattle.nodes.specs.declared.node.Node.{Node}
 use Rattle.lig_kern.specs.declared.element.Element.{Element}
-use Rattle.lig_kern.specs.Elements.{kern_node, nodes_of, between, is_ligature, kerns_of}
+use Rattle.lig_kern.specs.Elements.{nodes_of, between, is_ligature, kerns_of}
 use Rattle.lig_kern.specs.Rewriting.{Word, word_at, passed, moved_on, moved, is_due_at, is_due, with_ligature, rewritten, after}
-use Rattle.lig_kern.specs.Settling.{rewritings, after_steps, Settled, settled, Settles, Rewrites, Meets, before, to_do}
+use Rattle.lig_kern.specs.Settling.{rewritings, after_steps, settled, Settles, Rewrites, Meets, before, to_do}
 
 -- ---- words from which the cursor comes to the same place
 

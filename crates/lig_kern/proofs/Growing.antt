@@ -1,9 +1,9 @@
 -- Rewriting a word as far as it goes before more is fed is rewriting the whole word.
-use Rattle.std.proofs.Common.{◌≡◌, ℕ, zero, suc, ◌+◌, Bool, true, false, cond, List, [], ◌∷◌, ◌++◌, map, Result, Ok, Err, refl, sym, ap, subst, ◌∙◌, arith}
+use Rattle.std.proofs.Common.{◌≡◌, ℕ, zero, suc, ◌+◌, Bool, true, false, cond, List, [], ◌∷◌, ◌++◌, Result, Ok, Err, refl, sym, ap, subst, ◌∙◌, arith}
 use Rattle.std.proofs.lemmas.List.{map-append}
 use Rattle.tokens.specs.declared.stop.Stop.{Stop}
 use Rattle.tokens.specs.declared.stop.Stop.TheVariants.{Spent}
-use Rattle.tokens.specs.Ends.{EndsAs, EndsAs-map}
+use Rattle.tokens.specs.Ends.{EndsAs-map}
 use Rattle.tokens.specs.Budget.{Allowance}
 use Rattle.tfm.specs.declared.action.Action.{Action}
 use Rattle.tfm.specs.declared.action.Action.TheVariants.{Nothing, Kern, Lig}
@@ -14,7 +14,7 @@ use Rattle.lig_kern.specs.declared.element.Element.TheVariants.{Character}
 use Rattle.lig_kern.specs.Elements.{nodes_of, between, is_ligature, kerns_of}
 use Rattle.lig_kern.specs.Rewriting.{Word, word_at, first_of, word_of_fed, with_more, with_fed, last_of, closed, moved_on, moved, is_due_at, is_due, rewritten_by, rewritten_before, rewritten, after, AreDue, list_of}
 use Rattle.lig_kern.specs.Settling.{rewritings, Settled, settled, Settles}
-use Rattle.lig_kern.specs.Histories.{StandsFor, IsSet, KeepsHistory, KeepsHistories, SetsHistory}
+use Rattle.lig_kern.specs.Histories.{StandsFor, KeepsHistory, KeepsHistories, SetsHistory}
 use Rattle.lig_kern.proofs.Cursors.{after-same, moved-due}
 
 -- ---- moving the cursor

@@ -1,5 +1,5 @@
 -- Rewriting keeps the characters that were fed, in order.
-use Rattle.std.proofs.Common.{◌≡◌, ℤ, ℕ, zero, suc, Bool, true, false, cond, List, [], ◌∷◌, ◌++◌, map, refl, sym, ap, subst, ◌∙◌, append-nil, append_assoc}
+use Rattle.std.proofs.Common.{◌≡◌, ℤ, ℕ, zero, suc, Bool, true, false, cond, List, [], ◌∷◌, ◌++◌, map, refl, sym, ap, ◌∙◌, append-nil, append_assoc}
 use Rattle.std.specs.List.{flat_map}
 use Rattle.std.proofs.lemmas.Grind.{flat_map-append}
 use Rattle.tfm.specs.declared.action.Action.{Action}
@@ -15,9 +15,8 @@ use Rattle.nodes.specs.declared.node.KernKind.TheVariants.{Font}
 use Rattle.nodes.specs.declared.ligature.LigNode.{LigNode}
 use Rattle.lig_kern.specs.declared.element.Element.{Element}
 use Rattle.lig_kern.specs.declared.element.Element.TheVariants.{Start, Boundary, Character, Ligature}
-use Rattle.lig_kern.specs.Elements.{source_of, nodes_of, between, is_ligature, kern_node, kerns_of, yields_left, yields_right}
-use Rattle.lig_kern.specs.Rewriting.{Word, word_at, first_of, word_of_fed, last_of, closed, moved_on, moved, with_ligature, rewritten_by, rewritten_before, rewritten, after, list_of}
-use Rattle.lig_kern.specs.Histories.{IsSet}
+use Rattle.lig_kern.specs.Elements.{source_of, nodes_of, between, is_ligature, kerns_of, yields_left, yields_right}
+use Rattle.lig_kern.specs.Rewriting.{Word, word_at, first_of, word_of_fed, last_of, closed, moved_on, moved, rewritten_by, rewritten_before, rewritten, after, list_of}
 use Rattle.lig_kern.specs.Sources.{source_in, source_of_node, sources_of, IsSetInOrder}
 
 -- ---- nodes

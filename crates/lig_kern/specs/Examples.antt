@@ -1,6 +1,6 @@
 -- Words set by the definitions. The eight kinds of ligature are those of Metafont and PL files, `=:`, `|=:` and so on
 -- (tex.web, section 545; 1040), and the lists are those that TeX makes.
-use Rattle.std.specs.Prelude.{◌≡◌, ℕ, Bool, true, false, ℤ, pos, negsuc, neg_ℤ, List, [], ◌∷◌, ◌++◌, Option, Some, None}
+use Rattle.std.specs.Prelude.{◌≡◌, ℕ, Bool, true, false, ℤ, pos, neg_ℤ, List, [], ◌∷◌, ◌++◌, Option, Some, None}
 use Rattle.tokens.specs.Budget.{unused}
 use Rattle.tfm.specs.declared.quarters.Quarters.{Quarters}
 use Rattle.tfm.specs.declared.character.Character.{Character}
