@@ -23,10 +23,10 @@ use Rattle.scan_nums.specs.UnitWords.{unit_words, physical_words}
 use Rattle.scan_nums.specs.Units.{in_units, physical_size, magnification_of, true_whole, true_fraction, multiple, extent}
 use Rattle.scan_nums.specs.Dimension.{dimension, stretching, stretching_dimension, is_point}
 
-abbrev named : RegKind → Number → List Taken
+abbrev pub named : RegKind → Number → List Taken
 named k value = Seen (token.Name (record { 0 = 9 })) (meaning.Register k 9) ∷ Told value ∷ []
 
-abbrev taken_by : ℕ → List Taken
+abbrev pub taken_by : ℕ → List Taken
 taken_by byte =
     if byte == 64 then named kind.Count (number.Int (pos 1234))
     else if byte == 36 then named kind.Dimen (number.Dimen (pos 819200))
@@ -38,7 +38,7 @@ taken_by byte =
     else if byte == 126 then Seen (token.Name (record { 0 = 1 })) (meaning.Primitive relax_code) ∷ []
     else Seen (token.Char (initial_category byte) byte) (meaning.Char (initial_category byte) byte) ∷ []
 
-abbrev text_taken : List ℕ → List Taken
+abbrev pub text_taken : List ℕ → List Taken
 text_taken [] = []
 text_taken (byte ∷ text) = taken_by byte ++ text_taken text
 

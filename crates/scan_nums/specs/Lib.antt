@@ -4,6 +4,9 @@ pub mod Decimals
 pub mod DimenScan
 pub mod DimenStanding
 pub mod Dimension
+pub mod Glue
+pub mod GlueScan
+pub mod GlueStanding
 pub mod IntScan
 pub mod IntStanding
 pub mod Keywords

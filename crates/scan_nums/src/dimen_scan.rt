@@ -133,7 +133,8 @@ impl DimenScan {
     }
 }
 
-fn is_character(state: DimenState) -> bool
+/// Whether the mark of a character constant was taken.
+pub fn is_character(state: DimenState) -> bool
     ensures { result ≡ is_at_character state }
 {
     match state {

@@ -330,7 +330,8 @@ fn whole(negative: bool, n: Number) -> Verdict
     }
 }
 
-fn with_sign(negative: bool, n: i32) -> i32
+/// The number with the sign.
+pub fn with_sign(negative: bool, n: i32) -> i32
     requires { IsAboveLowest n }
     ensures { result ≡ with_sign negative n }
 {

@@ -4,6 +4,7 @@
 #![tactic(auto)]
 
 pub use dimen_scan::DimenScan;
+pub use glue_scan::GlueScan;
 pub use int_scan::IntScan;
 pub use number::{Number, Quantity};
 pub use verdict::{Phrase, Verdict};
@@ -13,6 +14,8 @@ mod decimals;
 mod dimen_scan;
 mod dimen_state;
 mod dimen_unit;
+mod glue_scan;
+mod glue_state;
 mod int_scan;
 mod keyword;
 pub mod laws;

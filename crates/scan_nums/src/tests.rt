@@ -2,4 +2,5 @@
 
 mod dimensions;
 mod driver;
+mod glues;
 mod whole_numbers;

@@ -9,8 +9,9 @@ ghost use Rattle.std.specs.Prelude.{◌≡◌, OnOk};
 ghost use Rattle.scan_nums.specs.Awaited.{awaited_after, Answer, NextToken, Resumption};
 ghost use Rattle.scan_nums.specs.IntScan.{awaits};
 ghost use Rattle.scan_nums.specs.DimenScan.{awaits as dimen_awaits};
+ghost use Rattle.scan_nums.specs.GlueScan.{awaits as glue_awaits};
 
-use crate::{DimenScan, IntScan, Number, Quantity, Verdict};
+use crate::{DimenScan, GlueScan, IntScan, Number, Quantity, Verdict};
 use scaled::{Glue, Order};
 use tokens::{Meaning, NameId, RegKind, Token, codes};
 
@@ -184,6 +185,62 @@ pub fn dimension(scan: &mut DimenScan, text: &[u8]) -> Option<Reading>
 fn settled(scan: &mut DimenScan, first: Verdict) -> Result<(u8, u8), Option<Reading>>
     requires { dimen_awaits scan.old ≡ awaited_after first }
     ensures { OnOk result (dimen_awaits scan.new ≡ NextToken) }
+{
+    let mut verdict = first;
+    let mut returned: u8 = 0;
+    let mut troubles: u8 = 0;
+    'verdicts: for _ in 0..4u8 {
+        verdict = match verdict {
+            Verdict::Need => return Ok((returned, troubles)),
+            Verdict::Ask(quantity) => {
+                let value = value_of(quantity);
+                if !value.is_negatable() {
+                    return Err(None);
+                }
+                scan.answer(value)
+            }
+            Verdict::Pass { kind: _, back } => {
+                returned = returned.saturating_add(back);
+                troubles = troubles.saturating_add(1);
+                scan.resume()
+            }
+            Verdict::Done(number) => return Err(found(number, returned, troubles)),
+            Verdict::DoneBefore { number, back } => return Err(found(number, back, troubles)),
+            Verdict::Sub(_) | Verdict::Trouble(_) => return Err(None),
+        };
+    }
+    Err(None)
+}
+
+/// Reads a glue by a reader that is new. `None` where the text ends too early, and for a trouble that isn't passed over.
+pub fn glue(scan: &mut GlueScan, text: &[u8]) -> Option<Reading>
+    requires { glue_awaits scan.old ≡ NextToken }
+{
+    let mut troubles: u8 = 0;
+    let mut place: usize = 0;
+    'tokens: for _ in 0..64u8 {
+        if place >= text.len() {
+            return None;
+        }
+        let byte = text[place];
+        place += 1;
+        let meaning = meaning_of(byte);
+        let verdict = scan.take(token_of(byte, false), &meaning);
+        match glue_settled(scan, verdict) {
+            Ok((back, passed)) => {
+                place = place.saturating_sub(usize::from(back));
+                troubles = troubles.saturating_add(passed);
+            }
+            Err(reading) => return with_troubles(reading, troubles),
+        }
+    }
+    None
+}
+
+/// The same as `settled` of a reader of glue.
+fn glue_settled(scan: &mut GlueScan, first: Verdict) -> Result<(u8, u8), Option<Reading>>
+    requires { glue_awaits scan.old ≡ awaited_after first }
+    ensures { OnOk result (glue_awaits scan.new ≡ NextToken) }
 {
     let mut verdict = first;
     let mut returned: u8 = 0;
