@@ -78,3 +78,10 @@ fn a_parenthesis_that_is_not_closed_is_a_trouble(rt: HostRuntime) {
         assert!(rt; matches!(verdict, Some(Verdict::Trouble(Kind::MissingParenthesis))));
     }
 }
+
+/// In `-(3-5)` the sign isn't the expression's: it begins an operand, in which a number is missing at `(`.
+#[test]
+fn a_sign_in_front_of_a_parenthesis_begins_an_operand(rt: HostRuntime) {
+    let verdict = outcome(rt.alloc(), Phrase::Int, &[], Sign(b'-'));
+    assert!(rt; matches!(verdict, Some(Verdict::Sub(Phrase::Int))));
+}

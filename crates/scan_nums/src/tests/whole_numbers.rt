@@ -108,4 +108,5 @@ fn a_missing_number_is_zero(rt: HostRuntime) {
     passes(&rt, b"'8", 0, 1);
     passes(&rt, b"\"a", 0, 1);
     passes(&rt, b"-`~", 0, 1);
+    passes(&rt, b"-(", 0, 1);
 }
