@@ -152,6 +152,7 @@ fn further_letters_raise_the_order(rt: HostRuntime) {
         ("1fil~", 65536, Order::Fil, 1),
         ("-1.5FiLL~", -98304, Order::Fill, 1),
         ("1fIL l  Lx", 65536, Order::Filll, 1),
+        ("1fILLl~", 65536, Order::Filll, 1),
         ("1fillll~", 65536, Order::Filll, 1),
         ("1pt ", 65536, Order::Normal, 0),
     ] {

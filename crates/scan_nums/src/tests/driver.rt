@@ -2,8 +2,8 @@
 //! that is passed over are handed in again.
 //!
 //! A letter has category 11, a space 10, any other byte 12. A byte behind `\` is a name of one character in a
-//! character constant, and has category 12. Five bytes stand for names: `@` for `\count9`, `$` for `\dimen9`,
-//! `&` for `\skip9`, `!` for `\muskip9` and `~` for `\relax`.
+//! character constant, and has category 12. Six bytes stand for names: `@` for `\count9`, `$` for `\dimen9`,
+//! `&` for `\skip9`, `!` for `\muskip9`, `^` for `\mag` and `~` for `\relax`.
 
 ghost use Rattle.std.specs.Prelude.{◌≡◌, OnOk};
 ghost use Rattle.scan_nums.specs.Awaited.{awaited_after, Answer, NextToken, Resumption};
@@ -25,7 +25,7 @@ pub struct Reading {
 
 pub fn token_of(byte: u8, escaped: bool) -> Token {
     match byte {
-        b'@' | b'$' | b'&' | b'!' | b'~' => Token::Name(NameId(u64::from(byte))),
+        b'@' | b'$' | b'&' | b'!' | b'^' | b'~' => Token::Name(NameId(u64::from(byte))),
         b' ' => Token::Char { cat: 10, byte },
         b'A'..=b'Z' | b'a'..=b'z' => Token::Char {
             cat: if escaped { 12 } else { 11 },
@@ -41,6 +41,7 @@ pub fn meaning_of(byte: u8) -> Meaning {
         b'$' => register(RegKind::Dimen),
         b'&' => register(RegKind::Skip),
         b'!' => register(RegKind::Muskip),
+        b'^' => Meaning::Primitive(codes::MAG),
         b'~' => Meaning::Primitive(codes::RELAX),
         b' ' => Meaning::Char { cat: 10, byte },
         b'A'..=b'Z' | b'a'..=b'z' => Meaning::Char { cat: 11, byte },

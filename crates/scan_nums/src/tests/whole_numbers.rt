@@ -51,6 +51,7 @@ fn decimal_constants(rt: HostRuntime) {
     stops_at(&rt, b"2147483647~", 2_147_483_647);
     stops_at(&rt, b"12a", 12);
     stops_at(&rt, b"12@", 12);
+    stops_at(&rt, b"12^", 12);
     ends_with(&rt, b"12 34", 12);
 }
 
@@ -79,6 +80,7 @@ fn character_constants(rt: HostRuntime) {
 
 #[test]
 fn quantities_as_numbers(rt: HostRuntime) {
+    ends_with(&rt, b"^", 2000);
     ends_with(&rt, b"@", 1234);
     ends_with(&rt, b"-@", -1234);
     ends_with(&rt, b"$", 819_200);
