@@ -16,3 +16,13 @@ fn an_inner_condition_leaves_the_outer_one(rt: HostRuntime) -> Result<(), Fail> 
     assert_eq!(rt; (stack.level(), stack.kind(), stack.branch()), (1, 17, 1));
     Ok(())
 }
+
+#[test]
+fn a_thousand_conditions_are_open_at_once(rt: HostRuntime) -> Result<(), Fail> {
+    let mut stack = IfStack::new(rt.alloc());
+    for line in 0..1000u32 {
+        stack.open(17, line)?;
+    }
+    assert_eq!(rt; stack.level(), 1000);
+    Ok(())
+}
