@@ -1,11 +1,11 @@
 -- A list whose front stands at the end of a vector.
-use Rattle.std.proofs.Common.{◌≡◌, ℕ, ◌+◌, ◌<◌, List, [], ◌∷◌, ap, ◌∙◌, sym, length, take, get_or, set, arith, suc, length-set}
+use Rattle.std.proofs.Common.{◌≡◌, ℕ, ◌+◌, ◌<◌, ◌≤◌, List, [], ◌∷◌, ap, ◌∙◌, sym, length, take, get_or, set, arith, zero, suc, refl, length-set}
 use Rattle.std.specs.Prelude.{reverse}
 use Rattle.std.proofs.lemmas.List.{reverse-append, take_all}
 use Rattle.std.proofs.Math.Seq.{take-suc, take-suc-set}
 use Rattle.conditionals.specs.declared.stack.Branch.{Branch}
 use Rattle.conditionals.specs.declared.stack.Condition.{Condition}
-use Rattle.conditionals.specs.Conditions.{with_branch}
+use Rattle.conditionals.specs.Conditions.{with_branch, with_branch_at}
 
 reverse_set : (n : ℕ) (xs : List Condition) (y : Condition) → n + 1 ≡ length xs → reverse (set xs n y) ≡ y ∷ reverse (take n xs)
 reverse_set n xs y e =
@@ -24,3 +24,16 @@ pub branch-last : (branch : Branch) (n : ℕ) (xs : List Condition) (x : Conditi
     → reverse (set xs n (record x { branch = branch })) ≡ with_branch branch (reverse xs)
 branch-last branch n xs x e h =
     reverse_set n xs (record x { branch = branch }) e ∙ ap (with_branch branch) (sym (reverse_last n xs x e h))
+
+-- the branch of the one at a place
+pub branch-set : (branch : Branch) (n : ℕ) (xs : List Condition) (x : Condition) → n < length xs → x ≡ get_or xs n x
+    → set xs n (record x { branch = branch }) ≡ with_branch_at branch n xs
+branch-set branch n [] x below h = absurd (omega (arith, below))
+branch-set branch zero (y ∷ ys) x below h = ap (λ (z : Condition). record z { branch = branch } ∷ ys) h
+branch-set branch (suc n) (y ∷ ys) x below h = ap (λ (zs : List Condition). y ∷ zs) (branch-set branch n ys x (omega (arith, below)) h)
+
+-- there is none behind the last one
+pub branch-beyond : (branch : Branch) (n : ℕ) (xs : List Condition) → length xs ≤ n → xs ≡ with_branch_at branch n xs
+branch-beyond branch n [] beyond = refl
+branch-beyond branch zero (y ∷ ys) beyond = absurd (omega (arith, beyond))
+branch-beyond branch (suc n) (y ∷ ys) beyond = ap (λ (zs : List Condition). y ∷ zs) (branch-beyond branch n ys (omega (arith, beyond)))

@@ -1,6 +1,6 @@
 //! The conditions that are open, one in another (`tex.web` 489 and 495 to 497).
 ghost use Rattle.std.specs.Prelude.{◌≡◌, ◌<◌, [], ◌∷◌, length, min, reverse, OnOk, OnErr};
-ghost use Rattle.conditionals.specs.Conditions.{condition_of, with_branch, with_chosen, branch_by, without_innermost, innermost_kind, innermost_branch, branch_number};
+ghost use Rattle.conditionals.specs.Conditions.{condition_of, with_branch, with_branch_at, with_chosen, with_chosen_at, branch_by, without_innermost, innermost, innermost_kind, innermost_branch, branch_number};
 
 use std::alloc::{AllocError, Global};
 use std::marker::Model;
@@ -95,6 +95,20 @@ impl IfStack {
         choose(&mut self.conditions, branch);
     }
 
+    /// The branch is chosen of the condition that is so many deep, counted from 1 for the outermost. Where there is
+    /// none, nothing changes.
+    pub fn chosen_at(&mut self, level: u32, after_else: bool)
+        ensures { self.new ≡ with_chosen_at level after_else self.old }
+    {
+        if let Some(place) = level.checked_sub(1) {
+            choose_at(
+                &mut self.conditions,
+                place as usize,
+                Branch::behind_else(after_else),
+            );
+        }
+    }
+
     /// Closes the innermost condition.
     pub fn close(&mut self)
         requires { 0 < length self.old }
@@ -108,6 +122,16 @@ impl IfStack {
         ensures { result ≡ min (length self.now) 4294967295 }
     {
         u32::try_from(self.conditions.len()).unwrap_or(u32::MAX)
+    }
+
+    /// The innermost condition.
+    pub fn innermost(&self) -> Option<Condition>
+        ensures { result ≡ innermost self.now }
+    {
+        match self.conditions.last() {
+            None => None,
+            Some(condition) => Some(*condition),
+        }
     }
 
     /// The kind of the innermost condition, 0 where none is open.
@@ -129,6 +153,14 @@ impl IfStack {
             None => 0,
             Some(innermost) => innermost.branch.number(),
         }
+    }
+}
+
+fn choose_at(conditions: &mut Vec<Condition>, place: usize, branch: Branch)
+    ensures { conditions.new.items ≡ with_branch_at branch place conditions.old.items }
+{
+    if place < conditions.len() {
+        conditions[place].branch = branch;
     }
 }
 
