@@ -75,6 +75,13 @@ impl Env {
         })
     }
 
+    /// Whether the mode is e-TeX's extended one, in which there are registers to 32767.
+    pub fn is_extended(&self) -> bool
+        ensures { result ≡ (copies_of self.now).extended }
+    {
+        self.extended
+    }
+
     /// A number: a `\count` or `\dimen` register (the latter in sp), an integer or dimension parameter, a code, or
     /// the number of a font.
     pub fn number(&self, key: Key) -> i32
