@@ -1,0 +1,4 @@
+pub mod Phrases
+pub mod Laws
+pub mod Unwinding
+pub mod Stack
