@@ -4,7 +4,7 @@ use std::test::Fail;
 
 #[test]
 fn nine_arguments_take_their_places(rt: HostRuntime) -> Result<(), Fail> {
-    // the third is empty, and the second stands three times
+    // the third is empty, and the second stands twice
     let arguments = &["a", "bb", "", "d", "e", "f", "g", "h", "ij"];
     let calls = [Call::Macro("x9y1z2233456789", arguments), Call::All];
     let shown = show(rt.alloc(), "", calls.as_slice())?;
