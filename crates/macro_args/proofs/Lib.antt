@@ -1,0 +1,3 @@
+pub mod BraceLaws
+pub mod MatchingLaws
+pub mod PlaceLaws

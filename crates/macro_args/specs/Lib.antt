@@ -1,0 +1,4 @@
+pub mod ParameterText
+pub mod BraceCount
+pub mod Arguments
+pub mod Scanning

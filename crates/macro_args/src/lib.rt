@@ -1,0 +1,14 @@
+//! The arguments of a macro call, read token by token (The TeXbook, chapter 20; `tex.web` 389 to 401).
+#![tactic(auto)]
+
+pub use rules::Rules;
+pub use scan::ArgScan;
+pub use verdict::{Refusal, Verdict};
+
+mod braces;
+mod judge;
+mod matching;
+mod place;
+mod rules;
+mod scan;
+mod verdict;
