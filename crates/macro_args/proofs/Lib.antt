@@ -1,3 +1,4 @@
 pub mod BraceLaws
 pub mod MatchingLaws
 pub mod PlaceLaws
+pub mod ScanLaws

@@ -1,6 +1,7 @@
 -- The delimiter that stands at a place of a parameter text.
 use Rattle.std.specs.Prelude.{◌≡◌, ℕ, ◌+◌, ◌-◌, ◌<◌, ◌≤◌, ◌⊎◌, List, [], ◌∷◌, length, refl}
 use Rattle.std.proofs.Common.{arith, sym, ap, ◌∙◌, take, drop, length-drop, inl, inr}
+use Rattle.std.proofs.lemmas.List.{drop-drop}
 use Rattle.tokens.specs.declared.token.Token.{Token}
 use Rattle.tokens.specs.declared.token.Token.TheVariants.{Char, Active, Name, Arg, Frozen}
 use Rattle.macro_args.specs.ParameterText.{Parts, parts_of}
@@ -56,5 +57,5 @@ delimiter_past text begin end placed (inr past) = absurd (omega arith)
 pub behind_delimiter : (text : List Token) (begin end : ℕ) → end ≡ begin + length (parts_of (drop begin text)).front
     → parts_of (drop end text) ≡ behind (parts_of (drop begin text))
 behind_delimiter text begin end placed =
-    ap (λ n. parts_of (drop n text)) (placed ∙ add-comm begin (length (parts_of (drop begin text)).front))
-    ∙ ap parts_of (drop_drop text begin) ∙ front_dropped (drop begin text)
+    ap (λ n. parts_of (drop n text)) placed
+    ∙ ap parts_of (sym (drop-drop (length (parts_of (drop begin text)).front) begin text)) ∙ front_dropped (drop begin text)

@@ -3,8 +3,8 @@ ghost use Rattle.std.specs.Prelude.{◌≡◌, ◌<◌, ◌↔◌, false, List, 
 ghost use Rattle.tokens.specs.declared.token.Token.{Token};
 ghost use Rattle.macro_args.specs.declared.rules.Rules.{Rules};
 ghost use Rattle.macro_args.specs.BraceCount.{no_braces};
-ghost use Rattle.macro_args.specs.Arguments.{Complete, use_of, argument_list};
-ghost use Rattle.macro_args.specs.Scanning.{StandsFor, Tells, IsSound, Steps, EndsArgument, verdict_at};
+ghost use Rattle.macro_args.specs.Arguments.{Open, Complete, use_of, argument_list};
+ghost use Rattle.macro_args.specs.Scanning.{StandsFor, Tells, IsSound, scan_rest, Steps, EndsArgument, verdict_at};
 
 use crate::braces::{Braces, without_braces};
 use crate::judge::{Judgement, judged};
@@ -88,7 +88,7 @@ impl ArgScan {
     }
 
     fn step(&mut self, token: Token) -> Result<Verdict, AllocError>
-        ensures { IfOk result (λ verdict. IsSound self.old → Steps self.old token verdict self.new) }
+        ensures { IfOk result (λ verdict. IsSound self.old → scan_rest self.old [] ≡ Open → Steps self.old token verdict self.new) }
     {
         match self.place {
             Place::Front { next } => Ok(self.match_front(next, token)),
