@@ -2,3 +2,4 @@ pub mod BraceLaws
 pub mod MatchingLaws
 pub mod PlaceLaws
 pub mod ScanLaws
+mod Examples

@@ -8,7 +8,7 @@ use Rattle.tokens.specs.Token.{same_token}
 use Rattle.tokens.specs.TokenList.{same_tokens, same_tokens-equal}
 use Rattle.macro_args.specs.declared.braces.Braces.{Braces}
 use Rattle.macro_args.specs.BraceCount.{braces_of, is_balanced}
-use Rattle.macro_args.specs.Arguments.{ends_with, before, stands_at_end, is_begun_by, is_begun}
+use Rattle.macro_args.specs.Arguments.{ends_with, before, stands_at_end, is_begun_by, is_part}
 use Rattle.macro_args.proofs.BraceLaws.{balanced_in_front, unbalanced_in_front}
 
 -- lists are compared place by place
@@ -57,8 +57,8 @@ pub others_before : (tokens text : List Token) (own braces : Braces) → own ≡
 others_before tokens text own braces counted all ends differ =
     let whole : braces ≡ braces_of (before tokens text ++ text) = all ∙ ap braces_of (sym (parted_at_end tokens text ends)) in
     unbalanced_in_front (before tokens text) text (elim differ [
-      inl h ↦ inl (λ e. h (ap (λ b. b.lone) counted ∙ e ∙ sym (ap (λ b. b.lone) whole)))
-    | inr h ↦ inr (λ e. h (ap (λ b. b.unclosed) counted ∙ e ∙ sym (ap (λ b. b.unclosed) whole)))
+      | inl h ↦ inl (λ e. h (ap (λ b. b.lone) counted ∙ e ∙ sym (ap (λ b. b.lone) whole)))
+      | inr h ↦ inr (λ e. h (ap (λ b. b.unclosed) counted ∙ e ∙ sym (ap (λ b. b.unclosed) whole)))
     ])
 
 pub none_before : (tokens text : List Token) (own braces : Braces) → own ≡ braces_of text → braces ≡ braces_of tokens
@@ -72,15 +72,10 @@ none_before tokens text own braces counted all ends lone unclosed none =
     (sym (ap (λ b. b.unclosed) counted) ∙ unclosed ∙ ap (λ b. b.unclosed) whole)
 
 -- beginnings of a delimiter, the shortest first
-pub none_begun : (delimiter tokens : List Token) (i : ℕ) → 1 ≤ i → is_begun_by (i - 1) delimiter tokens ≡ false
-    → stands_at_end (take i delimiter) tokens ≡ false → is_begun_by ((i + 1) - 1) delimiter tokens ≡ false
-none_begun delimiter tokens zero low so_far here = absurd (omega arith)
-none_begun delimiter tokens (suc i) low so_far here =
-    let e : (suc i + 1) - 1 ≡ suc i = omega arith in
-    let f : suc i - 1 ≡ i = omega arith in
-    ap (λ n. is_begun_by n delimiter tokens) e
-    ∙ ap (λ b. b || is_begun_by i delimiter tokens) here
-    ∙ ap (λ n. is_begun_by n delimiter tokens) (sym f) ∙ so_far
+pub none_begun : (delimiter tokens : List Token) (i : ℕ) → is_begun_by i delimiter tokens ≡ false
+    → stands_at_end (take (i + 1) delimiter) tokens ≡ false → is_begun_by (i + 1) delimiter tokens ≡ false
+none_begun delimiter tokens i so_far here =
+    rw add-one (ap (λ b. b || is_begun_by i delimiter tokens) (rw add-one at here) ∙ so_far)
 
 begun_among : (delimiter tokens : List Token) (i more : ℕ) → is_begun_by i delimiter tokens ≡ true
     → is_begun_by (more + i) delimiter tokens ≡ true
@@ -94,10 +89,11 @@ begun_among delimiter tokens i (suc more) here =
     or_second true b h = refl
     or_second false b h = h
 
-pub begun_at : (delimiter tokens : List Token) (i : ℕ) → 1 ≤ i → i < length delimiter
-    → stands_at_end (take i delimiter) tokens ≡ true → true ≡ is_begun delimiter tokens
-begun_at delimiter tokens zero low high here = absurd (omega arith)
-begun_at delimiter tokens (suc i) low high here =
-    let first : is_begun_by (suc i) delimiter tokens ≡ true = ap (λ b. b || is_begun_by i delimiter tokens) here in
-    let e : length delimiter - 1 ≡ (length delimiter - 1 - suc i) + suc i = omega arith in
-    sym (ap (λ n. is_begun_by n delimiter tokens) e ∙ begun_among delimiter tokens (suc i) (length delimiter - 1 - suc i) first)
+pub begun_at : (delimiter tokens : List Token) (i : ℕ) → i < length delimiter
+    → stands_at_end (take (i + 1) delimiter) tokens ≡ true → true ≡ is_part delimiter tokens
+begun_at delimiter tokens i high here =
+    let first : is_begun_by (suc i) delimiter tokens ≡ true =
+    ap (λ b. b || is_begun_by i delimiter tokens) (rw add-one at here)
+    in
+    let e : length delimiter ≡ (length delimiter - suc i) + suc i = omega arith in
+    sym (ap (λ n. is_begun_by n delimiter tokens) e ∙ begun_among delimiter tokens (suc i) (length delimiter - suc i) first)

@@ -32,10 +32,10 @@ outcome_by (judgement.Refused refusal) rules delimiter tokens token more = Refus
 
 same_outcome : (j : Judgement) (rules : Rules) (delimiter tokens : List Token) (token : Token) (more : List Token)
     → (elim j [
-      judgement.Passed ↦ argument_from rules delimiter [] more
-    | judgement.Going ↦ argument_from rules delimiter (tokens ++ token ∷ []) more
-    | judgement.Found ↦ ended (argument_list (argument_of delimiter (tokens ++ token ∷ []))) more
-    | judgement.Refused refusal ↦ Refuses refusal more
+      | judgement.Passed ↦ argument_from rules delimiter [] more
+      | judgement.Going ↦ argument_from rules delimiter (tokens ++ token ∷ []) more
+      | judgement.Found ↦ ended (argument_list (argument_of delimiter (tokens ++ token ∷ []))) more
+      | judgement.Refused refusal ↦ Refuses refusal more
     ]) ≡ outcome_by j rules delimiter tokens token more
 same_outcome judgement.Passed rules delimiter tokens token more = refl
 same_outcome judgement.Going rules delimiter tokens token more = refl

@@ -36,9 +36,9 @@ is_begun_by zero delimiter tokens = false
 is_begun_by (suc count) delimiter tokens =
     stands_at_end (take (suc count) delimiter) tokens || is_begun_by count delimiter tokens
 
--- the last token is part of a delimiter that isn't whole yet
-abbrev pub is_begun : List Token → List Token → Bool
-is_begun delimiter tokens = is_begun_by (length delimiter - 1) delimiter tokens
+-- the last token is part of the delimiter, whether that is whole or may still become so
+abbrev pub is_part : List Token → List Token → Bool
+is_part delimiter tokens = is_begun_by (length delimiter) delimiter tokens
 
 abbrev pub is_space : Token → Bool
 is_space (Char cat byte) = (cat == 10) && (byte == 32)
@@ -60,15 +60,15 @@ is_barred rules token = not rules.long && same_token token (Name rules.par)
 abbrev pub is_too_long : List Token → List Token → Bool
 is_too_long delimiter tokens = nat_lt 16777215 (length tokens - (length delimiter - 1))
 
--- what is to be said of the tokens of an argument so far, of which this is the last: they are all of the argument
--- with its delimiter; or it can't go on with this one. A token that is part of a delimiter that isn't whole yet is
--- allowed there, also where it turns out later to be one of the argument's.
+-- what is to be said of the tokens of an argument so far, of which this is the last: it can't go on with this one; or
+-- they are all of the argument with its delimiter. A token that is part of the delimiter, or may be, is allowed, also
+-- where it turns out later to be one of the argument's.
 abbrev pub judged : Rules → List Token → List Token → Token → Judgement
 judged rules delimiter tokens token =
     if is_passed delimiter tokens token then Passed
+    else if is_barred rules token && not (is_part delimiter tokens) then Refused ParagraphEnded
+    else if has_lone_right tokens && not (is_part delimiter tokens) then Refused ExtraBrace
     else if stands_at_end delimiter tokens then Found
-    else if is_barred rules token && not (is_begun delimiter tokens) then Refused ParagraphEnded
-    else if has_lone_right tokens && not (is_begun delimiter tokens) then Refused ExtraBrace
     else if is_too_long delimiter tokens then Refused TooLong
     else Going
 
@@ -100,10 +100,10 @@ abbrev pub argument_from : Rules → List Token → List Token → List Token �
 argument_from rules delimiter tokens [] = Unended
 argument_from rules delimiter tokens (token ∷ more) =
     elim (judged rules delimiter (tokens ++ token ∷ []) token) [
-      Passed ↦ argument_from rules delimiter [] more
-    | Going ↦ argument_from rules delimiter (tokens ++ token ∷ []) more
-    | Found ↦ ended (argument_list (argument_of delimiter (tokens ++ token ∷ []))) more
-    | Refused refusal ↦ Refuses refusal more
+      | Passed ↦ argument_from rules delimiter [] more
+      | Going ↦ argument_from rules delimiter (tokens ++ token ∷ []) more
+      | Found ↦ ended (argument_list (argument_of delimiter (tokens ++ token ∷ []))) more
+      | Refused refusal ↦ Refuses refusal more
     ]
 
 -- ---- the whole use

@@ -4,7 +4,7 @@ ghost use Rattle.macro_args.specs.BraceCount.{braces_of};
 ghost use Rattle.macro_args.specs.Arguments.{is_space, is_passed, is_barred, is_too_long, judged};
 
 use crate::braces::Braces;
-use crate::matching::{is_begun, stands_at_end};
+use crate::matching::{is_part, stands_at_end};
 use crate::rules::Rules;
 use crate::verdict::Refusal;
 use tokens::Token;
@@ -35,12 +35,12 @@ pub fn judged(
 {
     if is_passed(delimiter, tokens, token) {
         Judgement::Passed
+    } else if is_barred(rules, token) && !is_part(delimiter, tokens, braces) {
+        Judgement::Refused(Refusal::ParagraphEnded)
+    } else if braces.lone >= 1 && !is_part(delimiter, tokens, braces) {
+        Judgement::Refused(Refusal::ExtraBrace)
     } else if stands_at_end(delimiter, tokens, braces) {
         Judgement::Found
-    } else if is_barred(rules, token) && !is_begun(delimiter, tokens, braces) {
-        Judgement::Refused(Refusal::ParagraphEnded)
-    } else if braces.lone >= 1 && !is_begun(delimiter, tokens, braces) {
-        Judgement::Refused(Refusal::ExtraBrace)
     } else if is_too_long(delimiter, tokens) {
         Judgement::Refused(Refusal::TooLong)
     } else {
@@ -72,5 +72,8 @@ fn is_barred(rules: Rules, token: Token) -> bool
 fn is_too_long(delimiter: &[Token], tokens: &[Token]) -> bool
     ensures { result ≡ is_too_long delimiter.now tokens.now }
 {
-    tokens.len().saturating_sub(delimiter.len().saturating_sub(1)) > LIMIT
+    tokens
+        .len()
+        .saturating_sub(delimiter.len().saturating_sub(1))
+        > LIMIT
 }

@@ -2,7 +2,7 @@
 #![tactic(auto)]
 
 pub use rules::Rules;
-pub use scan::ArgScan;
+pub use scan::{ArgScan, takes_tokens};
 pub use verdict::{Refusal, Verdict};
 
 mod braces;
@@ -11,4 +11,6 @@ mod matching;
 mod place;
 mod rules;
 mod scan;
+#[cfg(test)]
+mod tests;
 mod verdict;

@@ -3,7 +3,7 @@
 ghost use Rattle.std.specs.Prelude.{◌≡◌, IsTrue, length};
 ghost use Rattle.tokens.specs.TokenList.{same_tokens};
 ghost use Rattle.macro_args.specs.BraceCount.{braces_of, is_balanced};
-ghost use Rattle.macro_args.specs.Arguments.{ends_with, before, stands_at_end, is_begun};
+ghost use Rattle.macro_args.specs.Arguments.{ends_with, before, stands_at_end, is_part};
 
 use crate::braces::Braces;
 use tokens::Token;
@@ -55,12 +55,13 @@ fn is_balanced_before(text: &[Token], tokens: &[Token], braces: Braces) -> bool
     Braces::of(&tokens[..length]).is_none()
 }
 
-/// Whether the last token is part of a delimiter that isn't whole yet. The braces are those of the list.
-pub fn is_begun(delimiter: &[Token], tokens: &[Token], braces: Braces) -> bool
-    ensures { braces ≡ braces_of tokens.now → result ≡ is_begun delimiter.now tokens.now }
+/// Whether the last token is part of the delimiter, whether that is whole or may still become so. The braces are
+/// those of the list.
+pub fn is_part(delimiter: &[Token], tokens: &[Token], braces: Braces) -> bool
+    ensures { braces ≡ braces_of tokens.now → result ≡ is_part delimiter.now tokens.now }
 {
-    for length in 1..delimiter.len() {
-        if stands_at_end(&delimiter[..length], tokens, braces) {
+    for last in 0..delimiter.len() {
+        if stands_at_end(&delimiter[..last + 1], tokens, braces) {
             return true;
         }
     }

@@ -32,7 +32,9 @@ pub fn place_at(parameters: &[Token], at: usize) -> Place
             begin: at + 1,
             end: delimiter_end(parameters, at + 1),
         },
-        Token::Char { .. } | Token::Active(_) | Token::Name(_) | Token::Frozen(_) => Place::Front { next: at },
+        Token::Char { .. } | Token::Active(_) | Token::Name(_) | Token::Frozen(_) => Place::Front {
+            next: at,
+        },
     }
 }
 

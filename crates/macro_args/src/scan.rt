@@ -35,12 +35,12 @@ impl Model for ArgScan {
     ghost Value = { Scanning };
 
     ghost view = { λ scan. record {
-        rules = scan.rules;
-        parameters = scan.parameters;
-        place = scan.place;
-        found = scan.found.items;
-        tokens = scan.tokens.items;
-        braces = scan.braces;
+      rules = scan.rules;
+      parameters = scan.parameters;
+      place = scan.place;
+      found = scan.found.items;
+      tokens = scan.tokens.items;
+      braces = scan.braces;
     } };
 }
 
@@ -120,7 +120,13 @@ impl ArgScan {
         self.braces = self.braces.with(token);
         let delimiter = delimiter(self.parameters.as_slice(), begin, end);
         let own = delimiter.len();
-        match judged(self.rules, delimiter, self.tokens.as_slice(), self.braces, token) {
+        match judged(
+            self.rules,
+            delimiter,
+            self.tokens.as_slice(),
+            self.braces,
+            token,
+        ) {
             Judgement::Passed => {
                 self.begin_argument();
                 Ok(Verdict::Need)

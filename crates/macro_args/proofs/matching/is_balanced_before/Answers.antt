@@ -8,8 +8,8 @@ pub returns-then-own-braces : goal.returns-then-own-braces
 returns-then-own-braces c = λ counted ends.
     others_before c.args.tokens.now c.args.text.now c.of-own.result c.args.braces c.of-own.ensures counted ends
     (elim c.then-own-braces.branch [
-      then-own-braces-via-then-own-braces w ↦ inl w.if-own-braces.true
-    | then-own-braces-via-else-own-braces+then-own-braces-2 w ↦ inr w.if-own-braces-2.true
+      | then-own-braces-via-then-own-braces w ↦ inl w.if-own-braces.true
+      | then-own-braces-via-else-own-braces+then-own-braces-2 w ↦ inr w.if-own-braces-2.true
     ])
 
 pub returns-then-own-eq0 : goal.returns-then-own-eq0

@@ -1,0 +1,4 @@
+//! Worked uses of macros, and the sizes that no worked text shows.
+
+mod large;
+mod uses;
