@@ -1,0 +1,13 @@
+pub mod State
+pub mod Parameters
+pub mod Report
+pub mod Meanings
+pub mod Events
+pub mod Troubles
+pub mod FileName
+pub mod Acts
+pub mod Wants
+pub mod Expansion
+pub mod Laws
+pub mod Progress
+pub mod Example

@@ -1,0 +1,166 @@
+-- How far a phrase was read, as the code keeps it, and for which lists of what was taken that stands: whatever is taken
+-- next, the phrase wants then what is said of the rest.
+use Rattle.std.specs.Prelude.{◌≡◌, ◌==◌, Bool, true, false, if◌then◌else◌, List, [], ◌∷◌, ◌++◌, map, None}
+use Rattle.tokens.specs.declared.token.Token.{Token}
+use Rattle.tokens.specs.declared.meaning.Meaning.{Meaning}
+use Rattle.scan_nums.specs.Number.{first_number}
+use Rattle.scan_nums.specs.Starts.{is_space}
+use Rattle.scan_nums.specs.IntScan.{Stands as NumberStands}
+use Rattle.conditionals.specs.Skipping.{StandsFor}
+use Rattle.macro_args.specs.Scanning.{StandsFor as ArgumentsStand}
+use Rattle.gullet.specs.declared.context.Context.{Context}
+use Rattle.gullet.specs.declared.progress.Progress.{Progress}
+use Rattle.gullet.specs.declared.progress.Progress.TheVariants as progress
+use Rattle.gullet.specs.declared.task.Task.{Task}
+use Rattle.gullet.specs.declared.task.Task.TheVariants as task
+use Rattle.gullet.specs.declared.task.Told.{Told}
+use Rattle.gullet.specs.declared.task.Told.TheVariants as told
+use Rattle.gullet.specs.declared.task.Act.TheVariants as act
+use Rattle.gullet.specs.declared.task.Want.{Want}
+use Rattle.gullet.specs.declared.task.Want.TheVariants.{Raw, Expanded, Character, Act, Inner, Gives, Wrong}
+use Rattle.gullet.specs.Wants.{Taken, wants, done, only, told_of, token_of, meaning_of, number_told, level_told, word_told, goes_on, behind_first, behind_second, second_want, digits_want, register_numbered, first_number_want, relation_want, false_want, to_fi_want, name_from, file_want, file_from, named_want, left_want, by_relation, relation_of, decided, holds, name_by, byte_of, file_by, letter_of, scanned, last_token, matching, tokens_in, was_done}
+
+-- what the phrase wants where a token with this meaning is taken next, or this is told, and then these are taken
+abbrev pub rest : Progress → Token → Meaning → Told → List Taken → Want
+rest (progress.Number scan last) t m v xs = Raw
+rest (progress.Passing scan) t m v xs = Raw
+rest (progress.Call name called scan) t m v xs = Raw
+rest (progress.Finishing back) t m v xs = Gives told.Done back
+rest progress.Telling t m v xs = Gives v None
+rest progress.ExpandFirst t m v xs = behind_first t xs
+rest (progress.ExpandSecond first) t m v xs = behind_second first (second_want t m) xs
+rest progress.Digits t m v xs = digits_want v xs
+rest (progress.RegisterNumber code) t m v xs = register_numbered code v xs
+rest progress.Opened t m v xs = first_number_want (level_told v) xs
+rest (progress.FirstNumber level) t m v xs = relation_want level (number_told v) xs
+rest (progress.Relation level first) t m v xs =
+    if is_space m then relation_want level first xs else by_relation level first (relation_of t) xs
+rest (progress.SecondNumber level relation first) t m v xs =
+    decided (holds relation (first_number first) (first_number (number_told v))) level xs
+rest (progress.PassedOver level) t m v xs = left_want v level xs
+rest (progress.Left level) t m v xs = if goes_on v then false_want level xs else done
+rest progress.Met t m v xs = if goes_on v then to_fi_want xs else done
+rest progress.ToFi t m v xs = if word_told v == 0 then only (Act act.Close) xs else to_fi_want xs
+rest (progress.Name text) t m v xs = name_by (λ longer. name_from longer xs) text.items (byte_of t) m xs
+rest progress.FileStart t m v xs =
+    if is_space m then file_want xs else file_by (λ longer. file_from longer xs) [] (letter_of m) t
+rest (progress.File text) t m v xs = file_by (λ longer. file_from longer xs) text.items (letter_of m) t
+rest progress.Named t m v xs = named_want v xs
+
+abbrev pub rest_behind : Progress → Taken → List Taken → Want
+rest_behind p x xs = rest p (token_of x) (meaning_of x) (told_of x) xs
+
+-- whatever is taken next, the phrase wants then what is said of the rest
+abbrev pub Follows : Progress → Context → Task → List Taken → Type 0
+Follows p c kind taken = (x : Taken) (xs : List Taken) → wants c kind (taken ++ x ∷ xs) ≡ rest_behind p x xs
+
+-- a phrase was read so far when just this was taken
+abbrev pub Stands : Progress → Context → Task → List Taken → Type 0
+Stands (progress.Number scan last) c kind taken =
+    (kind ≡ task.WholeNumber) × NumberStands scan (map scanned taken) × (last ≡ last_token taken)
+Stands (progress.Passing scan) c kind taken = (kind ≡ task.PassOver) × StandsFor 0 (map meaning_of taken) scan
+Stands (progress.Call name called scan) c kind taken =
+    (kind ≡ task.Call name called) × ArgumentsStand (matching called) called.params (tokens_in taken) scan × (was_done taken ≡ false)
+Stands (progress.Finishing back) c kind taken = Follows (progress.Finishing back) c kind taken
+Stands progress.Telling c kind taken = Follows progress.Telling c kind taken
+Stands progress.ExpandFirst c kind taken = Follows progress.ExpandFirst c kind taken
+Stands (progress.ExpandSecond first) c kind taken = Follows (progress.ExpandSecond first) c kind taken
+Stands progress.Digits c kind taken = Follows progress.Digits c kind taken
+Stands (progress.RegisterNumber code) c kind taken = Follows (progress.RegisterNumber code) c kind taken
+Stands progress.Opened c kind taken = Follows progress.Opened c kind taken
+Stands (progress.FirstNumber level) c kind taken = Follows (progress.FirstNumber level) c kind taken
+Stands (progress.Relation level first) c kind taken = Follows (progress.Relation level first) c kind taken
+Stands (progress.SecondNumber level relation first) c kind taken = Follows (progress.SecondNumber level relation first) c kind taken
+Stands (progress.PassedOver level) c kind taken = Follows (progress.PassedOver level) c kind taken
+Stands (progress.Left level) c kind taken = Follows (progress.Left level) c kind taken
+Stands progress.Met c kind taken = Follows progress.Met c kind taken
+Stands progress.ToFi c kind taken = Follows progress.ToFi c kind taken
+Stands (progress.Name text) c kind taken = Follows (progress.Name text) c kind taken
+Stands progress.FileStart c kind taken = Follows progress.FileStart c kind taken
+Stands (progress.File text) c kind taken = Follows (progress.File text) c kind taken
+Stands progress.Named c kind taken = Follows progress.Named c kind taken
+
+-- a fact that holds unless the phrase is at its end
+abbrev pub WhileOpen : Want → Type 0 → Type 0
+WhileOpen Raw P = P
+WhileOpen Expanded P = P
+WhileOpen Character P = P
+WhileOpen (Act act) P = P
+WhileOpen (Inner inner) P = P
+WhileOpen (Gives told back) P = Unit {0}
+WhileOpen (Wrong kind) P = Unit {0}
+
+-- one thing more was taken: what is wanted behind further ones, seen from before, is what is wanted seen from behind it
+abbrev pub Steps : Progress → Token → Meaning → Told → Progress → Type 0
+Steps before t m v after = (x : Taken) (xs : List Taken) → rest before t m v (x ∷ xs) ≡ rest_behind after x xs
+
+-- a step other than of a number, of a text that is passed over and of a macro's call
+abbrev pub is_plain : Progress → Bool
+is_plain (progress.Number scan last) = false
+is_plain (progress.Passing scan) = false
+is_plain (progress.Call name called scan) = false
+is_plain (progress.Finishing back) = true
+is_plain progress.Telling = true
+is_plain progress.ExpandFirst = true
+is_plain (progress.ExpandSecond first) = true
+is_plain progress.Digits = true
+is_plain (progress.RegisterNumber code) = true
+is_plain progress.Opened = true
+is_plain (progress.FirstNumber level) = true
+is_plain (progress.Relation level first) = true
+is_plain (progress.SecondNumber level relation first) = true
+is_plain (progress.PassedOver level) = true
+is_plain (progress.Left level) = true
+is_plain progress.Met = true
+is_plain progress.ToFi = true
+is_plain (progress.Name text) = true
+is_plain progress.FileStart = true
+is_plain (progress.File text) = true
+is_plain progress.Named = true
+
+-- a plain step that follows stands
+pub stands-plain : (p : Progress) (c : Context) (kind : Task) (taken : List Taken) → is_plain p ≡ true → Follows p c kind taken → Stands p c kind taken
+stands-plain (progress.Number scan last) c kind taken h f = cc
+stands-plain (progress.Passing scan) c kind taken h f = cc
+stands-plain (progress.Call name called scan) c kind taken h f = cc
+stands-plain (progress.Finishing back) c kind taken h f = f
+stands-plain progress.Telling c kind taken h f = f
+stands-plain progress.ExpandFirst c kind taken h f = f
+stands-plain (progress.ExpandSecond first) c kind taken h f = f
+stands-plain progress.Digits c kind taken h f = f
+stands-plain (progress.RegisterNumber code) c kind taken h f = f
+stands-plain progress.Opened c kind taken h f = f
+stands-plain (progress.FirstNumber level) c kind taken h f = f
+stands-plain (progress.Relation level first) c kind taken h f = f
+stands-plain (progress.SecondNumber level relation first) c kind taken h f = f
+stands-plain (progress.PassedOver level) c kind taken h f = f
+stands-plain (progress.Left level) c kind taken h f = f
+stands-plain progress.Met c kind taken h f = f
+stands-plain progress.ToFi c kind taken h f = f
+stands-plain (progress.Name text) c kind taken h f = f
+stands-plain progress.FileStart c kind taken h f = f
+stands-plain (progress.File text) c kind taken h f = f
+stands-plain progress.Named c kind taken h f = f
+
+pub follows-plain : (p : Progress) (c : Context) (kind : Task) (taken : List Taken) → is_plain p ≡ true → Stands p c kind taken → Follows p c kind taken
+follows-plain (progress.Number scan last) c kind taken h f = cc
+follows-plain (progress.Passing scan) c kind taken h f = cc
+follows-plain (progress.Call name called scan) c kind taken h f = cc
+follows-plain (progress.Finishing back) c kind taken h f = f
+follows-plain progress.Telling c kind taken h f = f
+follows-plain progress.ExpandFirst c kind taken h f = f
+follows-plain (progress.ExpandSecond first) c kind taken h f = f
+follows-plain progress.Digits c kind taken h f = f
+follows-plain (progress.RegisterNumber code) c kind taken h f = f
+follows-plain progress.Opened c kind taken h f = f
+follows-plain (progress.FirstNumber level) c kind taken h f = f
+follows-plain (progress.Relation level first) c kind taken h f = f
+follows-plain (progress.SecondNumber level relation first) c kind taken h f = f
+follows-plain (progress.PassedOver level) c kind taken h f = f
+follows-plain (progress.Left level) c kind taken h f = f
+follows-plain progress.Met c kind taken h f = f
+follows-plain progress.ToFi c kind taken h f = f
+follows-plain (progress.Name text) c kind taken h f = f
+follows-plain progress.FileStart c kind taken h f = f
+follows-plain (progress.File text) c kind taken h f = f
+follows-plain progress.Named c kind taken h f = f

@@ -1,0 +1,398 @@
+-- What a phrase wants next, by its kind and what it has taken, the earliest first (The TeXbook, chapters 20 and 24).
+use Rattle.std.specs.Prelude.{ℕ, ℤ, pos, negsuc, ◌==◌, nat_lt, int_lt, int_le, ◌&&◌, Bool, true, false, if◌then◌else◌, List, [], ◌∷◌, ◌++◌, map, Option, Some, None, codes}
+use Rattle.tokens.specs.Codes.{endcsname_code, par_code}
+use Rattle.tokens.specs.declared.kind.Kind.TheVariants.{MissingRelation, MissingEndcsname, LeftOut}
+use Rattle.tokens.specs.declared.token.Token.{Token}
+use Rattle.tokens.specs.declared.token.Token.TheVariants as token
+use Rattle.tokens.specs.declared.meaning.Macro.{Macro}
+use Rattle.tokens.specs.declared.meaning.Meaning.{Meaning}
+use Rattle.tokens.specs.declared.meaning.Meaning.TheVariants as meaning
+use Rattle.scaled.specs.declared.spacing.Glue.{Glue}
+use Rattle.scan_nums.specs.Number.{first_number}
+use Rattle.scan_nums.specs.declared.number.Number.{Number}
+use Rattle.scan_nums.specs.declared.number.Number.TheVariants as number
+use Rattle.scan_nums.specs.declared.number.Quantity.{Quantity}
+use Rattle.scan_nums.specs.declared.verdict.Verdict.{Verdict}
+use Rattle.scan_nums.specs.declared.verdict.Verdict.TheVariants as verdict
+use Rattle.scan_nums.specs.Taken.{Seen as SeenToken, Told as ToldNumber, Resumed}
+use Rattle.scan_nums.specs.Taken as scan
+use Rattle.scan_nums.specs.Starts.{is_space, is_from_to}
+use Rattle.scan_nums.specs.WholeNumber.{whole_number, wants_character}
+use Rattle.macro_args.specs.declared.rules.Rules.{Rules}
+use Rattle.macro_args.specs.Arguments.{Use, Open, Complete, Unfit, use_of}
+use Rattle.conditionals.specs.Branches.{Stopping, stop_of}
+use Rattle.gullet.specs.declared.context.Context.{Context}
+use Rattle.gullet.specs.declared.task.Task.{Task}
+use Rattle.gullet.specs.declared.task.Task.TheVariants as task
+use Rattle.gullet.specs.declared.task.Told.{Told}
+use Rattle.gullet.specs.declared.task.Told.TheVariants as told
+use Rattle.gullet.specs.declared.task.Act.TheVariants as act
+use Rattle.gullet.specs.declared.task.Want.{Want}
+use Rattle.gullet.specs.declared.task.Want.TheVariants.{Raw, Expanded, Character, Act, Inner, Gives, Wrong}
+use Rattle.gullet.specs.declared.task.BranchWord.{BranchWord}
+use Rattle.gullet.specs.Meanings.{expansion}
+use Rattle.tokens.specs.Codes.{count_code, muskip_code}
+
+-- what a phrase has taken: a token with the meaning that it had then, what an inner phrase told, or what was told by
+-- something that was done
+pub data Taken : Type 0 where
+  Tok : Token → Meaning → Taken
+  Got : Told → Taken
+  Was : Told → Taken
+
+abbrev pub done : Want
+done = Gives told.Done None
+
+-- ---- whole numbers (The TeXbook, chapter 24)
+
+-- what was taken, as the grammar of numbers reads it
+-- a number that has no negative counts as 0
+abbrev pub if_negatable : Bool → Number → Number
+if_negatable b n = if b then n else number.Int (pos 0)
+
+abbrev pub is_above_lowest : ℤ → Bool
+is_above_lowest n = int_le (negsuc 2147483646) n
+
+abbrev pub are_above_lowest : Glue → Bool
+are_above_lowest g = is_above_lowest g.width && is_above_lowest g.stretch && is_above_lowest g.shrink
+
+abbrev pub negatable : Number → Number
+negatable (number.Int n) = if_negatable (is_above_lowest n) (number.Int n)
+negatable (number.Dimen n) = if_negatable (is_above_lowest n) (number.Dimen n)
+negatable (number.Glue g) = if_negatable (are_above_lowest g) (number.Glue g)
+negatable (number.MuGlue g) = if_negatable (are_above_lowest g) (number.MuGlue g)
+
+abbrev pub number_told : Told → Number
+number_told told.Done = number.Int (pos 0)
+number_told (told.Number n) = n
+number_told (told.Word word) = number.Int (pos 0)
+number_told (told.Level level) = number.Int (pos 0)
+number_told told.GoOn = number.Int (pos 0)
+number_told (told.Text text) = number.Int (pos 0)
+
+-- an inner phrase answers what was asked for; behind a trouble that was passed over the number goes on
+abbrev pub scanned : Taken → scan.Taken
+scanned (Tok t m) = SeenToken t m
+scanned (Got tells) = ToldNumber (negatable (number_told tells))
+scanned (Was tells) = Resumed
+
+-- the last token
+unfoldable pub last_token : List Taken → Option Token
+last_token [] = None
+last_token (Tok t m ∷ []) = Some t
+last_token (Got tells ∷ []) = None
+last_token (Was tells ∷ []) = None
+last_token (x ∷ y ∷ rest) = last_token (y ∷ rest)
+
+-- the last token, where one is given back
+abbrev pub given_back : ℕ → Option Token → Option Token
+given_back back last = if back == 0 then None else last
+
+-- by the verdict of the grammar, whether a character constant is read, and the last token
+abbrev pub number_want : Verdict → Bool → Option Token → Want
+number_want verdict.Need true last = Character
+number_want verdict.Need false last = Expanded
+number_want (verdict.Ask q) is_character last = Inner (task.QuantityValue q)
+number_want (verdict.Sub phrase) is_character last = Wrong (LeftOut (codes "expression"))
+number_want (verdict.Done n) is_character last = Gives (told.Number n) None
+number_want (verdict.DoneBefore n back) is_character last = Gives (told.Number n) (given_back back last)
+number_want (verdict.Trouble kind) is_character last = Wrong kind
+number_want (verdict.Pass kind back) is_character last = Act (act.Pass kind (given_back back last))
+
+abbrev pub whole_number_want : List Taken → Want
+whole_number_want taken =
+    number_want (whole_number (map scanned taken)) (wants_character (map scanned taken)) (last_token taken)
+
+-- ---- quantities: behind \count and its mates stands the number of a register
+
+abbrev pub told_of : Taken → Told
+told_of (Tok t m) = told.Done
+told_of (Got tells) = tells
+told_of (Was tells) = tells
+
+abbrev pub is_register_code : ℕ → Bool
+is_register_code code = is_from_to count_code muskip_code code
+
+abbrev pub register_numbered : ℕ → Told → List Taken → Want
+register_numbered code number [] = Act (act.LookRegister code (number_told number))
+register_numbered code number (x ∷ rest) = Gives (told_of x) None
+
+abbrev pub register_want : ℕ → List Taken → Want
+register_want code [] = Inner task.WholeNumber
+register_want code (x ∷ rest) = register_numbered code (told_of x) rest
+
+abbrev pub looked_up : Quantity → List Taken → Want
+looked_up q [] = Act (act.Look q)
+looked_up q (x ∷ rest) = Gives (told_of x) None
+
+abbrev pub quantity_by : Quantity → Option ℕ → List Taken → Want
+quantity_by q None taken = if is_register_code q.code then register_want q.code taken else looked_up q taken
+quantity_by q (Some place) taken = looked_up q taken
+
+-- ---- expansions
+
+-- something is done, and that is all
+abbrev pub only : Want → List Taken → Want
+only want [] = want
+only want (x ∷ rest) = done
+
+-- \expandafter: a token, and the expansion of the one behind it (tex.web 367). Both are put back
+abbrev pub expand_second : Token → Option Task → Want
+expand_second second None = Act (act.Return second)
+expand_second second (Some inner) = Inner inner
+
+abbrev pub second_want : Token → Meaning → Want
+second_want second m = expand_second second (expansion second m)
+
+abbrev pub token_of : Taken → Token
+token_of (Tok t m) = t
+token_of (Got tells) = token.Frozen 0
+token_of (Was tells) = token.Frozen 0
+
+abbrev pub meaning_of : Taken → Meaning
+meaning_of (Tok t m) = m
+meaning_of (Got tells) = meaning.Undefined
+meaning_of (Was tells) = meaning.Undefined
+
+abbrev pub behind_second : Token → Want → List Taken → Want
+behind_second first want [] = want
+behind_second first want (x ∷ rest) = Gives told.Done (Some first)
+
+abbrev pub behind_first : Token → List Taken → Want
+behind_first first [] = Raw
+behind_first first (x ∷ rest) = behind_second first (second_want (token_of x) (meaning_of x)) rest
+
+abbrev pub expand_after_want : List Taken → Want
+expand_after_want [] = Raw
+expand_after_want (x ∷ rest) = behind_first (token_of x) rest
+
+-- \number: a number, and its digits
+abbrev pub digits_want : Told → List Taken → Want
+digits_want number taken = only (Act (act.Digits (number_told number))) taken
+
+abbrev pub number_text_want : List Taken → Want
+number_text_want [] = Inner task.WholeNumber
+number_text_want (x ∷ rest) = digits_want (told_of x) rest
+
+-- ---- conditions
+
+-- a text is passed over until \else or \fi of its own level, or \fi alone (tex.web 494)
+abbrev pub pass_over_by : Option Stopping → Want
+pass_over_by None = Raw
+pass_over_by (Some stop) = Gives (told.Word stop.word) None
+
+abbrev pub pass_over_want : List Taken → Want
+pass_over_want taken = pass_over_by (stop_of 0 (map meaning_of taken))
+
+abbrev pub word_told : Told → ℕ
+word_told told.Done = 0
+word_told (told.Number n) = 0
+word_told (told.Word word) = word
+word_told (told.Level level) = 0
+word_told told.GoOn = 0
+word_told (told.Text text) = 0
+
+abbrev pub level_told : Told → ℕ
+level_told told.Done = 0
+level_told (told.Number n) = 0
+level_told (told.Word word) = 0
+level_told (told.Level level) = level
+level_told told.GoOn = 0
+level_told (told.Text text) = 0
+
+abbrev pub goes_on : Told → Bool
+goes_on told.Done = false
+goes_on (told.Number n) = false
+goes_on (told.Word word) = false
+goes_on (told.Level level) = false
+goes_on told.GoOn = true
+goes_on (told.Text text) = false
+
+-- the branch in front of \else is passed over, up to the condition's own \else or \fi
+abbrev pub false_want : ℕ → List Taken → Want
+false_want level [] = Inner task.PassOver
+false_want level (x ∷ []) = Act (act.Leave (word_told (told_of x)) level)
+false_want level (x ∷ y ∷ rest) = if goes_on (told_of y) then false_want level rest else done
+
+abbrev pub left_want : Told → ℕ → List Taken → Want
+left_want word level [] = Act (act.Leave (word_told word) level)
+left_want word level (y ∷ rest) = if goes_on (told_of y) then false_want level rest else done
+
+abbrev pub decided : Bool → ℕ → List Taken → Want
+decided true level taken = only (Act (act.Choose level)) taken
+decided false level taken = false_want level taken
+
+-- the relations `<`, `=` and `>`: bytes 60 to 62 of category 12
+abbrev pub relation_of : Token → Option ℕ
+relation_of (token.Char cat byte) = if cat == 12 then (if is_from_to 60 62 byte then Some byte else None) else None
+relation_of (token.Active byte) = None
+relation_of (token.Name id) = None
+relation_of (token.Arg n) = None
+relation_of (token.Frozen n) = None
+
+abbrev pub holds : ℕ → ℤ → ℤ → Bool
+holds relation a b =
+    if relation == 60 then int_lt a b
+    else if relation == 62 then int_lt b a
+    else (if int_lt a b then false else (if int_lt b a then false else true))
+
+abbrev pub compared : ℕ → ℕ → Number → List Taken → Want
+compared level relation a [] = Inner task.WholeNumber
+compared level relation a (x ∷ rest) = decided (holds relation (first_number a) (first_number (number_told (told_of x)))) level rest
+
+abbrev pub by_relation : ℕ → Number → Option ℕ → List Taken → Want
+by_relation level a None rest = Wrong MissingRelation
+by_relation level a (Some relation) rest = compared level relation a rest
+
+-- behind the first number spaces are passed, and then the relation stands (tex.web 503 and 404)
+abbrev pub relation_want : ℕ → Number → List Taken → Want
+relation_want level a [] = Expanded
+relation_want level a (x ∷ rest) =
+    if is_space (meaning_of x) then relation_want level a rest else by_relation level a (relation_of (token_of x)) rest
+
+abbrev pub first_number_want : ℕ → List Taken → Want
+first_number_want level [] = Inner task.WholeNumber
+first_number_want level (x ∷ rest) = relation_want level (number_told (told_of x)) rest
+
+-- \ifnum is the third of the conditions
+abbrev pub if_number_want : List Taken → Want
+if_number_want [] = Act (act.Open (pos 3))
+if_number_want (x ∷ rest) = first_number_want (level_told (told_of x)) rest
+
+-- behind \else or \or of a branch that was read, all is passed over up to \fi (tex.web 510)
+abbrev pub to_fi_want : List Taken → Want
+to_fi_want [] = Inner task.PassOver
+to_fi_want (x ∷ rest) = if word_told (told_of x) == 0 then only (Act act.Close) rest else to_fi_want rest
+
+abbrev pub branch_end_want : Token → BranchWord → List Taken → Want
+branch_end_want t word [] = Act (act.Meet t word)
+branch_end_want t word (x ∷ rest) = if goes_on (told_of x) then to_fi_want rest else done
+
+-- ---- names (tex.web 372)
+
+-- the bytes of characters, if all tokens are characters
+abbrev pub byte_of : Token → Option ℕ
+byte_of (token.Char cat byte) = Some byte
+byte_of (token.Active byte) = None
+byte_of (token.Name id) = None
+byte_of (token.Arg n) = None
+byte_of (token.Frozen n) = None
+
+abbrev pub is_end_of_name : Meaning → Bool
+is_end_of_name meaning.Undefined = false
+is_end_of_name (meaning.Primitive code) = code == endcsname_code
+is_end_of_name (meaning.Macro m) = false
+is_end_of_name (meaning.Char cat byte) = false
+is_end_of_name (meaning.CharDef byte) = false
+is_end_of_name (meaning.MathCharDef n) = false
+is_end_of_name (meaning.Register kind n) = false
+is_end_of_name (meaning.Font font) = false
+
+abbrev pub name_ended : List ℕ → Meaning → List Taken → Want
+name_ended text m rest = if is_end_of_name m then only (Act (act.MakeName text)) rest else Wrong MissingEndcsname
+
+abbrev pub name_by : (List ℕ → Want) → List ℕ → Option ℕ → Meaning → List Taken → Want
+name_by further text (Some byte) m rest = further (text ++ byte ∷ [])
+name_by further text None m rest = name_ended text m rest
+
+-- \csname: characters up to \endcsname
+abbrev pub name_from : List ℕ → List Taken → Want
+name_from text [] = Expanded
+name_from text (x ∷ rest) = name_by (λ longer. name_from longer rest) text (byte_of (token_of x)) (meaning_of x) rest
+
+-- ---- files (tex.web 526)
+
+-- the byte of a character, also of one that a name stands for, but of no active one
+abbrev pub letter_of : Meaning → Option ℕ
+letter_of meaning.Undefined = None
+letter_of (meaning.Primitive code) = None
+letter_of (meaning.Macro m) = None
+letter_of (meaning.Char cat byte) = if nat_lt 12 cat then None else Some byte
+letter_of (meaning.CharDef byte) = None
+letter_of (meaning.MathCharDef n) = None
+letter_of (meaning.Register kind n) = None
+letter_of (meaning.Font font) = None
+
+abbrev pub file_by : (List ℕ → Want) → List ℕ → Option ℕ → Token → Want
+file_by further text None t = Gives (told.Text text) (Some t)
+file_by further text (Some byte) t = if byte == 32 then Gives (told.Text text) None else further (text ++ byte ∷ [])
+
+-- characters up to a space or another token, which is put back
+abbrev pub file_from : List ℕ → List Taken → Want
+file_from text [] = Expanded
+file_from text (x ∷ rest) = file_by (λ longer. file_from longer rest) text (letter_of (meaning_of x)) (token_of x)
+
+-- spaces in front of a name are passed
+abbrev pub file_want : List Taken → Want
+file_want [] = Expanded
+file_want (x ∷ rest) = if is_space (meaning_of x) then file_want rest else file_from [] (x ∷ rest)
+
+abbrev pub text_told : Told → List ℕ
+text_told told.Done = []
+text_told (told.Number n) = []
+text_told (told.Word word) = []
+text_told (told.Level level) = []
+text_told told.GoOn = []
+text_told (told.Text text) = text
+
+-- \input: a name, and its file. Where the name of a file is being read, \relax is inserted in front of it, which ends
+-- that name (tex.web 378)
+abbrev pub named_want : Told → List Taken → Want
+named_want name taken = only (Act (act.ReadFile (text_told name))) taken
+
+abbrev pub input_by : Token → Bool → List Taken → Want
+input_by t true taken = only (Act (act.InsertRelax t)) taken
+input_by t false [] = Inner task.FileName
+input_by t false (x ∷ rest) = named_want (told_of x) rest
+
+-- ---- all kinds
+
+-- a macro's call (The TeXbook, chapter 20; tex.web 389): tokens that match its parameter text, and then its text with
+-- the arguments. The token of the name `par` ends a paragraph
+abbrev pub matching : Macro → Rules
+matching called = record { long = called.long; par = record { 0 = par_code } }
+
+-- all tokens of a list
+abbrev pub token_in : Taken → List Token → List Token
+token_in (Tok t m) tokens = t ∷ tokens
+token_in (Got tells) tokens = tokens
+token_in (Was tells) tokens = tokens
+
+abbrev pub tokens_in : List Taken → List Token
+tokens_in [] = []
+tokens_in (x ∷ taken) = token_in x (tokens_in taken)
+
+-- whether something was done behind the tokens
+abbrev pub was_done : List Taken → Bool
+was_done [] = false
+was_done (Tok t m ∷ taken) = was_done taken
+was_done (Got tells ∷ taken) = true
+was_done (Was tells ∷ taken) = true
+
+-- where the use of the macro is whole, its text comes in front, and that is all
+abbrev pub behind_use : Want → Bool → List Token → Want
+behind_use want true behind = done
+behind_use want false [] = want
+behind_use want false (t ∷ behind) = done
+
+abbrev pub used_by : Token → Macro → Bool → Use → Want
+used_by name called is_done Open = Raw
+used_by name called is_done (Complete arguments behind) = behind_use (Act (act.Text called.body arguments)) is_done behind
+used_by name called is_done (Unfit refusal behind) = behind_use (Act (act.Refuse name refusal)) is_done behind
+
+abbrev pub call_want : Token → Macro → List Taken → Want
+call_want name called taken = used_by name called (was_done taken) (use_of (matching called) called.params (tokens_in taken))
+
+unfoldable pub wants : Context → Task → List Taken → Want
+wants c task.WholeNumber taken = whole_number_want taken
+wants c (task.QuantityValue q) taken = quantity_by q q.index taken
+wants c (task.Undefined t) taken = only (Act (act.PassUndefined t)) taken
+wants c (task.Call name called) taken = call_want name called taken
+wants c task.ExpandAfter taken = expand_after_want taken
+wants c task.NumberText taken = number_text_want taken
+wants c task.IfNumber taken = if_number_want taken
+wants c task.PassOver taken = pass_over_want taken
+wants c (task.BranchEnd t word) taken = branch_end_want t word taken
+wants c task.NameText taken = name_from [] taken
+wants c (task.Input t) taken = input_by t c.naming taken
+wants c task.FileName taken = file_want taken

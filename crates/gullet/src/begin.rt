@@ -1,0 +1,109 @@
+//! A phrase begins: what it wants first.
+#![tactic(auto, using(asking::specs::Asked::asking), unfolding(crate::specs::Wants::wants, crate::specs::Wants::last_token))]
+
+ghost use Rattle.std.specs.Prelude.{◌≡◌, [], ◌∷◌, true, List, Option, IfOk};
+ghost use Rattle.gullet.specs.declared.context.Context.{Context};
+ghost use Rattle.gullet.specs.Progress.{rest_behind, is_plain, WhileOpen, Stands};
+ghost use Rattle.gullet.specs.Wants.{Taken, wants, quantity_by, input_by, call_want};
+
+use crate::context::Context;
+use crate::progress::Progress;
+use crate::task::{Act, Arguments, Task, Want};
+use conditionals::SkipScan;
+use macro_args::{ArgScan, Rules, takes_tokens};
+use scan_nums::{IntScan, Quantity};
+use std::alloc::{AllocError, Global};
+use tokens::{Macro, NameId, Token, codes};
+
+/// The number of `\ifnum` among the conditions.
+const IF_NUMBER: i8 = 3;
+
+/// A phrase begins, of which nothing was taken yet.
+pub fn begin(alloc: Global, context: Context, task: Task) -> Result<(Progress, Want), AllocError>
+    ensures want { IfOk result (λ r. r.1 ≡ wants context task []) }
+    ensures stands { IfOk result (λ r. WhileOpen r.1 (Stands r.0 context task [])) }
+{
+    match task {
+        Task::Call { name, called } => begin_call(alloc, name, called),
+        Task::WholeNumber => Ok((
+            Progress::Number {
+                scan: IntScan::new(),
+                last: None,
+            },
+            Want::Expanded,
+        )),
+        Task::QuantityValue(quantity) => Ok(begin_quantity(quantity)),
+        Task::Undefined(token) => Ok(only(Act::PassUndefined(token))),
+        Task::ExpandAfter => Ok((Progress::ExpandFirst, Want::Raw)),
+        Task::NumberText => Ok((Progress::Digits, Want::Inner(Task::WholeNumber))),
+        Task::IfNumber => Ok((Progress::Opened, Want::Act(Act::Open(IF_NUMBER)))),
+        Task::PassOver => Ok((Progress::Passing(SkipScan::new(0)), Want::Raw)),
+        Task::BranchEnd { token, word } => Ok((
+            Progress::Met,
+            Want::Act(Act::Meet { token, word }),
+        )),
+        Task::NameText => Ok((
+            Progress::Name {
+                text: Vec::new(alloc),
+            },
+            Want::Expanded,
+        )),
+        Task::Input(token) => Ok(begin_input(context.naming, token)),
+        Task::FileName => Ok((Progress::FileStart, Want::Expanded)),
+    }
+}
+
+/// Something is done, and that is all.
+fn only(act: Act) -> (Progress, Want)
+    ensures progress { result.0 ≡ Progress.Finishing Option.None }
+    ensures want { result.1 ≡ Want.Act act }
+{
+    (Progress::Finishing { back: None }, Want::Act(act))
+}
+
+fn begin_quantity(quantity: Quantity) -> (Progress, Want)
+    ensures want { result.1 ≡ quantity_by quantity quantity.index [] }
+    ensures stands { WhileOpen result.1 ((context : Context) → Stands result.0 context (Task.QuantityValue quantity) []) }
+{
+    if quantity.index.is_none() && codes::COUNT <= quantity.code && quantity.code <= codes::MUSKIP {
+        (
+            Progress::RegisterNumber {
+                code: quantity.code,
+            },
+            Want::Inner(Task::WholeNumber),
+        )
+    } else {
+        (Progress::Telling, Want::Act(Act::Look(quantity)))
+    }
+}
+
+fn begin_input(naming: bool, token: Token) -> (Progress, Want)
+    ensures want { result.1 ≡ input_by token naming [] }
+    ensures follows { WhileOpen result.1 ((x : Taken) (xs : List Taken) → input_by token naming (x ∷ xs) ≡ rest_behind result.0 x xs) }
+    ensures plain { is_plain result.0 ≡ true }
+{
+    if naming {
+        only(Act::InsertRelax(token))
+    } else {
+        (Progress::Named, Want::Inner(Task::FileName))
+    }
+}
+
+/// A macro's call: one without parameters takes no token.
+fn begin_call(alloc: Global, name: Token, called: Macro) -> Result<(Progress, Want), AllocError>
+    ensures want { IfOk result (λ r. r.1 ≡ call_want name called []) }
+    ensures stands { IfOk result (λ r. WhileOpen r.1 ((context : Context) → Stands r.0 context (Task.Call name called) [])) }
+{
+    if !takes_tokens(&called.params) {
+        return Ok(only(Act::Text {
+            body: called.body,
+            arguments: Arguments::none(alloc),
+        }));
+    }
+    let rules = Rules {
+        long: called.long,
+        par: NameId(u64::from(codes::PAR)),
+    };
+    let scan = ArgScan::new(alloc, rules, called.params.share()?);
+    Ok((Progress::Call { name, called, scan }, Want::Raw))
+}

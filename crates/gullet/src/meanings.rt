@@ -1,0 +1,178 @@
+//! What a token means now, and what expansion makes of it (The TeXbook, chapter 20; `tex.web`, parts 25 and 26).
+#![tactic(auto, using(asking::specs::Asked::asking), unfolding(crate::specs::Meanings::taken_meaning))]
+
+ghost use Rattle.std.specs.Prelude.{◌≡◌, ◌||◌, IfOk};
+ghost use Rattle.save_groups.specs.Standing.{copies_of};
+ghost use Rattle.scan_nums.specs.Starts.{is_asked, is_expression};
+ghost use Rattle.gullet.specs.Meanings.{is_carried_out, is_expandable_code, is_looked_at, is_missing, key_of, taken_meaning, expansion, expansion_of_code, is_outer, HasFixed, KnownBy};
+
+use crate::task::{BranchWord, Task};
+use save_groups::{Env, Key};
+use std::alloc::AllocError;
+use tokens::{Meaning, Token, codes};
+
+/// Whether the expansion of a name is carried out.
+fn is_carried_out(code: u16) -> bool
+    ensures { result ≡ is_carried_out code }
+{
+    code == codes::INPUT
+        || code == codes::EXPANDAFTER
+        || code == codes::CSNAME
+        || code == codes::NUMBER
+        || code == codes::IFNUM
+        || (codes::ELSE <= code && code <= codes::FI)
+}
+
+/// Whether a name is one that is expanded.
+fn is_expandable_code(code: u16) -> bool
+    ensures { result ≡ is_expandable_code code }
+{
+    code <= codes::FI || (codes::UNEXPANDED <= code && code <= codes::ETEX_REVISION)
+}
+
+/// Whether a quantity is looked at.
+fn is_looked_at(code: u16) -> bool
+    ensures { result ≡ is_looked_at code }
+{
+    (codes::PRETOLERANCE <= code && code <= codes::ERRORCONTEXTLINES)
+        || (codes::COUNT <= code && code <= codes::MUSKIP)
+}
+
+/// Whether a name asks for a number, a dimension or a glue, or for an expression.
+fn is_quantity(code: u16) -> bool
+    ensures { result ≡ (is_asked code || is_expression code) }
+{
+    (codes::PRETOLERANCE <= code && code <= codes::THICKMUSKIP)
+        || (codes::COUNT <= code && code <= codes::MUSKIP)
+        || (codes::WD <= code && code <= codes::SKEWCHAR)
+        || (codes::PARSHAPE <= code && code <= codes::BADNESS)
+        || (codes::GLUESTRETCH <= code && code <= codes::SAVINGHYPHCODES)
+        || (codes::NUMEXPR <= code && code <= codes::MUEXPR)
+}
+
+/// Whether a name of the tables is still to come.
+fn is_missing(code: u16) -> bool
+    ensures { result ≡ is_missing code }
+{
+    (is_expandable_code(code) && !is_carried_out(code))
+        || (is_quantity(code) && !is_looked_at(code))
+}
+
+/// The entry that has the meaning of a name or an active character.
+fn key_of(token: Token) -> Option<Key>
+    ensures { result ≡ key_of token }
+{
+    match token {
+        Token::Active(byte) => Some(Key::Active(byte)),
+        Token::Name(id) => Some(Key::Name(id)),
+        Token::Char { .. } | Token::Arg(_) | Token::Frozen(_) => None,
+    }
+}
+
+/// The meaning of a token that no environment holds: of a character, of one that isn't to be expanded, and of a name of
+/// the tables that is still to come.
+pub fn fixed_meaning(env: &Env, token: Token, noexpand: bool) -> Option<Meaning>
+    ensures { HasFixed (copies_of env.now) token noexpand result }
+{
+    if noexpand {
+        return Some(Meaning::Primitive(codes::RELAX));
+    }
+    match token {
+        Token::Char { cat, byte } => Some(Meaning::Char { cat, byte }),
+        Token::Frozen(_) => Some(Meaning::Primitive(codes::RELAX)),
+        Token::Arg(_) => Some(Meaning::Undefined),
+        Token::Active(byte) => fixed_by(env.meaning(Key::Active(byte))),
+        Token::Name(id) => fixed_by(env.meaning(Key::Name(id))),
+    }
+}
+
+/// Undefined where the meaning is a name of the tables that is still to come.
+fn fixed_by(meaning: &Meaning) -> Option<Meaning>
+    ensures { KnownBy meaning.now result }
+{
+    match meaning {
+        Meaning::Primitive(code) => {
+            if is_missing(*code) {
+                Some(Meaning::Undefined)
+            } else {
+                None
+            }
+        }
+        Meaning::Undefined
+        | Meaning::Macro(_)
+        | Meaning::Char { .. }
+        | Meaning::CharDef(_)
+        | Meaning::MathCharDef(_)
+        | Meaning::Register { .. }
+        | Meaning::Font(_) => None,
+    }
+}
+
+/// The phrase to which the expansion of a token leads, if it is expanded.
+pub fn expansion(token: Token, meaning: &Meaning) -> Result<Option<Task>, AllocError>
+    ensures { IfOk result (λ task. task ≡ expansion token meaning.now) }
+{
+    match meaning {
+        Meaning::Undefined => Ok(Some(Task::Undefined(token))),
+        Meaning::Primitive(code) => Ok(expansion_of_code(token, *code)),
+        Meaning::Macro(called) => Ok(Some(Task::Call {
+            name: token,
+            called: called.share()?,
+        })),
+        Meaning::Char { .. }
+        | Meaning::CharDef(_)
+        | Meaning::MathCharDef(_)
+        | Meaning::Register { .. }
+        | Meaning::Font(_) => Ok(None),
+    }
+}
+
+/// The same of a primitive.
+fn expansion_of_code(token: Token, code: u16) -> Option<Task>
+    ensures { result ≡ expansion_of_code token code }
+{
+    if code == codes::INPUT {
+        Some(Task::Input(token))
+    } else if code == codes::EXPANDAFTER {
+        Some(Task::ExpandAfter)
+    } else if code == codes::CSNAME {
+        Some(Task::NameText)
+    } else if code == codes::NUMBER {
+        Some(Task::NumberText)
+    } else if code == codes::IFNUM {
+        Some(Task::IfNumber)
+    } else if code == codes::ELSE {
+        Some(Task::BranchEnd {
+            token,
+            word: BranchWord::Else,
+        })
+    } else if code == codes::OR {
+        Some(Task::BranchEnd {
+            token,
+            word: BranchWord::Or,
+        })
+    } else if code == codes::FI {
+        Some(Task::BranchEnd {
+            token,
+            word: BranchWord::Fi,
+        })
+    } else {
+        None
+    }
+}
+
+/// A macro that may not stand where no outer one may.
+pub fn is_outer(meaning: &Meaning) -> bool
+    ensures { result ≡ is_outer meaning.now }
+{
+    match meaning {
+        Meaning::Macro(called) => called.outer,
+        Meaning::Undefined
+        | Meaning::Primitive(_)
+        | Meaning::Char { .. }
+        | Meaning::CharDef(_)
+        | Meaning::MathCharDef(_)
+        | Meaning::Register { .. }
+        | Meaning::Font(_) => false,
+    }
+}

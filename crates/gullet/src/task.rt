@@ -1,0 +1,166 @@
+//! What expansion is at: the kinds of phrases, what each wants next, and what it is told.
+ghost use Rattle.std.specs.Prelude.{◌≡◌, []};
+
+use macro_args::Refusal;
+use scan_nums::{Number, Quantity};
+use std::alloc::Global;
+use std::marker::Model;
+use tokens::{Kind, Macro, Text, Token, TokenList};
+
+/// The arguments of a macro. Contracts see the list of their lists.
+#[derive(Drop)]
+pub struct Arguments {
+    lists: Vec<TokenList>,
+}
+
+impl Model for Arguments {
+    ghost use Rattle.std.specs.Prelude.{List};
+    ghost use Rattle.tokens.specs.declared.token.Token.{Token};
+
+    ghost Value = { List (List Token) };
+
+    ghost view = { λ arguments. arguments.lists.items };
+}
+
+impl Arguments {
+    /// No arguments.
+    pub fn none(alloc: Global) -> Arguments
+        ensures { result ≡ [] }
+    {
+        Arguments {
+            lists: Vec::new(alloc),
+        }
+    }
+
+    /// All of them, for the text.
+    pub fn into_lists(self) -> Vec<TokenList>
+        ensures { result.items ≡ self }
+    {
+        self.lists
+    }
+}
+
+/// A word that parts the branches of a condition, or ends it.
+#[derive(Clone, Copy, Debug, PartialEq, Eq)]
+pub enum BranchWord {
+    Fi,
+    Else,
+    Or,
+}
+
+/// A kind of phrase.
+#[derive(Drop)]
+pub enum Task {
+    /// A whole number.
+    WholeNumber,
+    /// The value of a quantity, whose operands are still to be read.
+    QuantityValue(Quantity),
+    /// A name or active character without meaning.
+    Undefined(Token),
+    /// A macro's call, behind its name.
+    Call { name: Token, called: Macro },
+    /// `\expandafter`.
+    ExpandAfter,
+    /// `\number`.
+    NumberText,
+    /// `\ifnum`, up to the beginning of the chosen branch.
+    IfNumber,
+    /// A text that is passed over.
+    PassOver,
+    /// `\else`, `\or` or `\fi`.
+    BranchEnd { token: Token, word: BranchWord },
+    /// `\csname`.
+    NameText,
+    /// `\input`.
+    Input(Token),
+    /// The name of a file.
+    FileName,
+}
+
+/// What a phrase, or something that is done for it, tells.
+#[derive(Drop)]
+pub enum Told {
+    Done,
+    Number(Number),
+    /// What ended a text that was passed over: 0 for `\fi`, 1 for `\else`, 2 for `\or`.
+    Word(u8),
+    /// How many conditions are open.
+    Level(u32),
+    /// That there is more to pass over.
+    GoOn,
+    Text(Text),
+}
+
+/// What is done for a phrase.
+#[derive(Drop)]
+pub enum Act {
+    /// A token is put back, and paid.
+    Return(Token),
+    /// A token is put back behind an inserted `\relax`.
+    InsertRelax(Token),
+    /// A trouble is passed over, and then a token is put back.
+    Pass {
+        kind: Kind,
+        back: Option<Token>,
+    },
+    /// The trouble of a token without meaning is passed over.
+    PassUndefined(Token),
+    /// A quantity is looked at.
+    Look(Quantity),
+    /// The register of this number is looked at.
+    LookRegister {
+        code: u16,
+        number: Number,
+    },
+    /// The digits of a number are put in front.
+    Digits(Number),
+    /// A macro's text is put in front.
+    Text {
+        body: TokenList,
+        arguments: Arguments,
+    },
+    /// Tokens that are no use of a macro end the run.
+    Refuse {
+        name: Token,
+        refusal: Refusal,
+    },
+    /// A condition is opened.
+    Open(i8),
+    /// The branch in front of `\else` is read of the condition that is so many deep.
+    Choose(u32),
+    /// A text that was passed over has ended with this word.
+    Leave {
+        word: u8,
+        level: u32,
+    },
+    /// The innermost condition ends.
+    Close,
+    /// `\else`, `\or` or `\fi` is met.
+    Meet {
+        token: Token,
+        word: BranchWord,
+    },
+    /// A name is put in front.
+    MakeName(Text),
+    /// A file is opened.
+    ReadFile(Text),
+}
+
+/// What a phrase wants next.
+#[derive(Drop)]
+pub enum Want {
+    /// The next token as it stands.
+    Raw,
+    /// The next token that isn't expanded.
+    Expanded,
+    /// The next token as it stands, a name of one byte as its character.
+    Character,
+    /// That something is done.
+    Act(Act),
+    /// That another phrase is read.
+    Inner(Task),
+    /// Nothing more: this is told, and then a token is put back.
+    Gives { told: Told, back: Option<Token> },
+    /// It can't be read.
+    Wrong(Kind),
+}
