@@ -2,10 +2,10 @@
 use Rattle.std.proofs.Common.{◌≡◌, ℕ, true, false, List, [], ◌∷◌, ◌++◌, refl}
 use Rattle.std.specs.Prelude.{codes, map, Bool, ◌==◌, ◌&&◌, ◌||◌, nat_le, if◌then◌else◌}
 use Rattle.tokens.specs.declared.token.Token.{Token}
-use Rattle.tokens.specs.declared.token.Token.TheVariants.{Char, Active, Name, Arg, Frozen}
+use Rattle.tokens.specs.declared.token.Token.TheVariants.{Char, Name, Arg}
 use Rattle.macro_args.specs.declared.rules.Rules.{Rules}
-use Rattle.macro_args.specs.declared.verdict.Refusal.TheVariants.{NoMatch, ExtraBrace, ParagraphEnded, TooLong}
-use Rattle.macro_args.specs.Arguments.{Use, Open, Complete, Unfit, use_of}
+use Rattle.macro_args.specs.declared.verdict.Refusal.TheVariants.{NoMatch, ExtraBrace, ParagraphEnded}
+use Rattle.macro_args.specs.Arguments.{Open, Complete, Unfit, use_of}
 
 abbrev is_letter : ℕ → Bool
 is_letter byte = (nat_le 65 byte && nat_le byte 90) || (nat_le 97 byte && nat_le byte 122)

@@ -3,3 +3,4 @@ pub mod MatchingLaws
 pub mod PlaceLaws
 pub mod ScanLaws
 mod Examples
+pub mod ShortestLaw

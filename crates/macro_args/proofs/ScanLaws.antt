@@ -10,15 +10,14 @@ use Rattle.macro_args.specs.declared.place.Place.{Place}
 use Rattle.macro_args.specs.declared.place.Place.TheVariants.{Front, Argument, End}
 use Rattle.macro_args.specs.declared.rules.Rules.{Rules}
 use Rattle.macro_args.specs.declared.verdict.Refusal.{Refusal}
-use Rattle.macro_args.specs.declared.verdict.Refusal.TheVariants.{TooLong}
 use Rattle.macro_args.specs.declared.verdict.Verdict.{Verdict}
 use Rattle.macro_args.specs.declared.verdict.Verdict.TheVariants.{Need, Done, Refused}
-use Rattle.macro_args.specs.ParameterText.{Parts, parts_of}
+use Rattle.macro_args.specs.ParameterText.{parts_of}
 use Rattle.macro_args.specs.BraceCount.{with_brace, no_braces, braces_of, without_braces}
-use Rattle.macro_args.specs.Arguments.{Outcome, Unended, Ended, Refuses, Use, Open, Complete, Unfit, judged, ended, argument_of, argument_list, argument_from, after_argument, arguments_in, behind_front, use_from, use_of}
-use Rattle.macro_args.specs.Scanning.{Scanning, front_rest, argument_rest, place_rest, scan_rest, IsPlaceOf, IsUnread, IsSound, StandsFor, Tells, StepsOn, Steps, verdict_at, ArgumentEnds, EndsBy, EndsArgument}
+use Rattle.macro_args.specs.Arguments.{Outcome, Refuses, Use, Open, Complete, Unfit, judged, ended, argument_of, argument_list, argument_from, after_argument, arguments_in, behind_front, use_from, use_of}
+use Rattle.macro_args.specs.Scanning.{Scanning, front_rest, place_rest, scan_rest, IsPlaceOf, IsUnread, IsSound, StandsFor, Tells, StepsOn, Steps, verdict_at, EndsBy, EndsArgument}
 use Rattle.macro_args.proofs.BraceLaws.{exact}
-use Rattle.macro_args.proofs.PlaceLaws.{behind, behind_delimiter}
+use Rattle.macro_args.proofs.PlaceLaws.{behind_delimiter}
 
 -- ---- one place of an argument
 
@@ -42,7 +41,7 @@ same_outcome judgement.Going rules delimiter tokens token more = refl
 same_outcome judgement.Found rules delimiter tokens token more = refl
 same_outcome (judgement.Refused refusal) rules delimiter tokens token more = refl
 
-judged_outcome : (j : Judgement) (rules : Rules) (delimiter tokens : List Token) (token : Token) (more : List Token)
+pub judged_outcome : (j : Judgement) (rules : Rules) (delimiter tokens : List Token) (token : Token) (more : List Token)
     → judged rules delimiter (tokens ++ token ∷ []) token ≡ j
     → argument_from rules delimiter tokens (token ∷ more) ≡ outcome_by j rules delimiter tokens token more
 judged_outcome j rules delimiter tokens token more e =

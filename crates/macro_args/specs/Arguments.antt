@@ -3,7 +3,7 @@
 -- before its delimiter. An undelimited one is the shortest balanced list that isn't empty, spaces before it passed:
 -- the next token, or the next group. An argument that is one group loses its braces. Tokens are compared as tokens,
 -- whatever they mean.
-use Rattle.std.specs.Prelude.{ℕ, ◌+◌, ◌-◌, ◌==◌, Bool, true, false, ◌&&◌, ◌||◌, not, nat_lt, List, [], ◌∷◌, ◌++◌, length, take, drop, Option, Some, None, if◌then◌else◌}
+use Rattle.std.specs.Prelude.{ℕ, ◌-◌, ◌==◌, Bool, false, ◌&&◌, ◌||◌, not, nat_lt, List, [], ◌∷◌, ◌++◌, length, take, drop, Option, Some, None, if◌then◌else◌}
 use Rattle.std.proofs.Common.{zero, suc}
 use Rattle.tokens.specs.declared.token.Token.{Token}
 use Rattle.tokens.specs.declared.token.Token.TheVariants.{Char, Active, Name, Arg, Frozen}
@@ -14,7 +14,7 @@ use Rattle.macro_args.specs.declared.verdict.Refusal.{Refusal}
 use Rattle.macro_args.specs.declared.verdict.Refusal.TheVariants.{NoMatch, ExtraBrace, ParagraphEnded, TooLong}
 use Rattle.macro_args.specs.declared.judge.Judgement.{Judgement}
 use Rattle.macro_args.specs.declared.judge.Judgement.TheVariants.{Passed, Going, Found, Refused}
-use Rattle.macro_args.specs.ParameterText.{Parts, parts_of}
+use Rattle.macro_args.specs.ParameterText.{parts_of}
 use Rattle.macro_args.specs.BraceCount.{is_balanced, has_lone_right, without_braces}
 
 -- ---- one place of an argument

@@ -1,6 +1,6 @@
 -- Braces of a list of tokens: characters of the categories 1 and 2 (The TeXbook, chapters 7 and 20). They are matched
 -- like parentheses. Names and active characters that mean a brace are none.
-use Rattle.std.specs.Prelude.{ℕ, ◌+◌, ◌-◌, ◌==◌, Bool, true, false, ◌&&◌, nat_le, List, [], ◌∷◌, length, take, drop, Option, Some, None, slice_get, if◌then◌else◌}
+use Rattle.std.specs.Prelude.{◌+◌, ◌-◌, ◌==◌, Bool, false, ◌&&◌, nat_le, List, [], ◌∷◌, length, take, drop, Option, Some, None, slice_get, if◌then◌else◌}
 use Rattle.tokens.specs.declared.token.Token.{Token}
 use Rattle.tokens.specs.declared.token.Token.TheVariants.{Char, Active, Name, Arg, Frozen}
 use Rattle.macro_args.specs.declared.braces.Braces.{Braces}

@@ -1,5 +1,5 @@
 -- One token of an argument.
-use Rattle.std.proofs.Common.{arith, ◌∙◌, sym}
+use Rattle.std.proofs.Common.{arith, ◌∙◌}
 use Rattle.std.proofs.lemmas.Result.{IfOk-weaker}
 use Rattle.macro_args.proofs.ScanLaws.{judges, passed, going, refused, found, as_long}
 use Rattle.macro_args.proofs.scan.ArgScan.collect.Goals as goal
