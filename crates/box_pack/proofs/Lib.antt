@@ -1,0 +1,4 @@
+mod Within
+mod Counts
+mod Steps
+mod Results

@@ -1,0 +1,23 @@
+use Rattle.std.proofs.Common.{◌*◌, ◌+◌, ◌∙◌, ap, sym, arith}
+use Rattle.box_pack.specs.HorizontalSizes.{with_node}
+use Rattle.box_pack.proofs.Steps.{horizontal_sizes-more}
+use Rattle.box_pack.proofs.Within.{HorizontalWithin-le, BothWithin-le}
+use Rattle.box_pack.proofs.horizontal.sizes_of.Goals as goal
+
+pub add-requires : goal.add-requires
+add-requires c =
+    HorizontalWithin-le (c.loop-node.node-index * 2147483648) 2305843009213693952 c.loop-node.sizes (omega arith)
+    c.loop-node.invariant.1
+
+pub loop-node-preserved : goal.loop-node-preserved
+loop-node-preserved c = (
+  c.add.ensures.value ∙ ap (with_node c.node-item.result) c.loop-node.invariant.0
+      ∙ sym (horizontal_sizes-more c.args.list.now c.loop-node.node-index c.node-item.result c.loop-node-test.true c.node-item.is),
+  HorizontalWithin-le (c.loop-node.node-index * 2147483648 + 2147483648) ((c.loop-node.node-index + 1) * 2147483648) c.add.new.self
+      (omega arith) (c.add.ensures.range (c.loop-node.node-index * 2147483648) c.loop-node.invariant.1),
+)
+
+pub returns-clause-range : goal.returns-clause-range
+returns-clause-range c =
+    BothWithin-le (c.loop-node.node-index * 2147483648) 2305843009213693952 c.loop-node.sizes.glue (omega arith)
+    c.loop-node.invariant.1.glue

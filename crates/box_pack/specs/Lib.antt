@@ -1,0 +1,13 @@
+pub mod PackingSums
+pub mod PackingExtents
+pub mod PackingHorizontal
+pub mod PackingVertical
+pub mod PackingFlexibility
+pub mod PackingSetting
+pub mod PackingReports
+pub mod PackingLimits
+pub mod PackingBoxes
+pub mod GlueSums
+pub mod HorizontalSizes
+pub mod VerticalSizes
+pub mod Fits
