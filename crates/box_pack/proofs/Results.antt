@@ -1,5 +1,5 @@
 -- What is answered once a list is measured and its sizes are known.
-use Rattle.std.proofs.Common.{◌≡◌, ◌+◌, Bool, true, false, ◌||◌, ℤ, ◌-ℤ◌, List, Result, Ok, Err, if◌then◌else◌, ◌∙◌, ap, refl}
+use Rattle.std.proofs.Common.{◌≡◌, ℕ, ◌+◌, ◌==◌, length, [], ◌∷◌, pos, Bool, true, false, ◌||◌, ℤ, ◌-ℤ◌, List, Result, Ok, Err, if◌then◌else◌, ◌∙◌, ap, refl, arith}
 use Rattle.tokens.specs.declared.cap.Cap.TheVariants.{BoxNesting, Items, BoxSize}
 use Rattle.tokens.specs.declared.stop.Stop.{Stop}
 use Rattle.tokens.specs.declared.stop.Stop.TheVariants.{Capacity}
@@ -13,7 +13,11 @@ use Rattle.box_pack.specs.declared.packed.Packed.{Packed}
 use Rattle.box_pack.specs.PackingLimits.{is_too_deep, is_too_long, is_too_large, is_large, measured, limited, limited_extent, plan_for}
 use Rattle.box_pack.specs.PackingHorizontal.{natural_width}
 use Rattle.box_pack.specs.PackingVertical.{height_within}
-use Rattle.box_pack.specs.PackingBoxes.{size_for, packed_over, within_limits, hbox_extent, hbox, hpacked, vbox_extent, vbox, vpacked}
+use Rattle.box_pack.specs.declared.fit.Fit.{Fit}
+use Rattle.box_pack.specs.declared.flexibility.GlueTotals.{GlueTotals}
+use Rattle.box_pack.specs.Fits.{fit_of}
+use Rattle.box_pack.specs.PackingSetting.{setting_of}
+use Rattle.box_pack.specs.PackingBoxes.{is_empty, setting, size_for, packed_over, within_limits, hbox_extent, hbox, hpacked, vbox_extent, vbox, vpacked, moved_extent, moved_to, with_extent}
 use Rattle.box_pack.specs.HorizontalSizes.{horizontal_sizes, horizontal_plan}
 use Rattle.box_pack.specs.VerticalSizes.{vertical_sizes, vertical_plan}
 
@@ -137,3 +141,81 @@ pub plan_for-fits : (natural told size shown : ℤ) (meant extent : Extent) → 
 plan_for-fits natural told size shown meant extent is fits excess =
     planned (is_too_large natural) (is_large meant) natural told meant extent (made meant (size -ℤ natural)) is fits
     ∙ ap Ok (same_plan meant extent (size -ℤ natural) shown (limited_extent-is meant extent fits) excess)
+
+unnatural : (large other : Bool) (size : ℤ) (plan : Plan) (stop : Stop) →
+    (if large then Err (Capacity BoxSize) else Ok size) ≡ Err stop →
+    (if large || other then Err (Capacity BoxSize) else Ok plan) ≡ Err stop
+unnatural true true size plan stop is = cc
+unnatural true false size plan stop is = cc
+unnatural false true size plan stop is = cc
+unnatural false false size plan stop is = cc
+
+pub plan_for-unnatural : (natural size : ℤ) (meant : Extent) (stop : Stop) → limited natural ≡ Err stop →
+    plan_for natural size meant ≡ Err stop
+plan_for-unnatural natural size meant stop is =
+    unnatural (is_too_large natural) (is_large meant) natural (made meant (size -ℤ natural)) stop is
+
+-- ---- boxes
+
+abbrev packed_made : List Node → Bool → ℤ → ℤ → ℤ → Fit → ℕ → ℕ → Packed
+packed_made list vertical width height depth fit nesting count = record {
+  boxed = record {
+    vertical = vertical;
+    width = width;
+    height = height;
+    depth = depth;
+    shift = pos 0;
+    list = list;
+    set = fit.set;
+    nesting = nesting;
+    count = count;
+  };
+  report = fit.report;
+  badness = fit.badness;
+}
+
+same_packed : (f : List Node → ℤ → ℤ → ℤ → Fit → ℕ → ℕ → Packed) (l l' : List Node) (w w' h h' d d' : ℤ) (t t' : Fit) (n n' c c' : ℕ) →
+    l ≡ l' → w ≡ w' → h ≡ h' → d ≡ d' → t ≡ t' → n ≡ n' → c ≡ c' → f l w h d t n c ≡ f l' w' h' d' t' n' c'
+same_packed f l l' w w' h h' d d' t t' n n' c c' e1 e2 e3 e4 e5 e6 e7 = cc
+
+pub packed_over-is : (list list' : List Node) (vertical : Bool) (w h d : ℤ) (extent : Extent) (excess : ℤ) (fit : Fit) (n c : ℕ) →
+    list' ≡ list → w ≡ extent.width → h ≡ extent.height → d ≡ extent.depth → fit ≡ fit_of excess (setting list excess) →
+    n ≡ 1 + nesting_of list → c ≡ count_of list →
+    packed_made list' vertical w h d fit n c ≡ packed_over list vertical extent excess
+packed_over-is list list' vertical w h d extent excess fit n c e1 e2 e3 e4 e5 e6 e7 =
+    same_packed (λ a b e f g k m. packed_made a vertical b e f g k m) list' list w extent.width h extent.height d extent.depth
+    fit (fit_of excess (setting list excess)) n (1 + nesting_of list) c (count_of list) e1 e2 e3 e4 e5 e6 e7
+
+same_fitting : (f : Bool → ℤ → GlueTotals → Fit) (e e' : Bool) (x x' : ℤ) (g g' : GlueTotals) → e ≡ e' → x ≡ x' → g ≡ g' →
+    f e x g ≡ f e' x' g'
+same_fitting f e e' x x' g g' a b c = cc
+
+pub same_fit : (e e' : Bool) (x x' : ℤ) (g g' : GlueTotals) → e ≡ e' → x ≡ x' → g ≡ g' →
+    fit_of x (setting_of e x g.stretch g.shrink) ≡ fit_of x' (setting_of e' x' g'.stretch g'.shrink)
+same_fit e e' x x' g g' a b c = same_fitting (λ u v w. fit_of v (setting_of u v w.stretch w.shrink)) e e' x x' g g' a b c
+
+pub length_none : (list : List Node) → (length list == 0) ≡ is_empty list
+length_none [] = refl
+length_none (node ∷ list) = grind arith
+
+halted : (large : Bool) (meant : Extent) (packed : Packed) (stop : Stop) →
+    (if large then Err (Capacity BoxSize) else Ok meant) ≡ Err stop →
+    (if large then Err (Capacity BoxSize) else Ok packed) ≡ Err stop
+halted true meant packed stop is = cc
+halted false meant packed stop is = cc
+
+settled : (large : Bool) (meant extent : Extent) (packed : Extent → Packed) →
+    (if large then Err (Capacity BoxSize) else Ok meant) ≡ Ok extent →
+    (if large then Err (Capacity BoxSize) else Ok (packed meant)) ≡ Ok (packed extent)
+settled true meant extent packed is = cc
+settled false meant extent packed is = cc
+
+pub moved_to-stops : (top : ℤ) (packed : Packed) (stop : Stop) → limited_extent (moved_extent top packed) ≡ Err stop →
+    moved_to top packed ≡ Err stop
+moved_to-stops top packed stop is =
+    halted (is_large (moved_extent top packed)) (moved_extent top packed) (with_extent (moved_extent top packed) packed) stop is
+
+pub moved_to-fits : (top : ℤ) (packed : Packed) (extent : Extent) → limited_extent (moved_extent top packed) ≡ Ok extent →
+    moved_to top packed ≡ Ok (with_extent extent packed)
+moved_to-fits top packed extent is =
+    settled (is_large (moved_extent top packed)) (moved_extent top packed) extent (λ e. with_extent e packed) is

@@ -39,7 +39,7 @@ impl Packed {
         requires glue { glue.now ≡ glue_totals list.items }
         ensures { result ≡ packed_over list.items vertical plan.extent plan.excess }
     {
-        let fit = Fit::new(list.is_empty(), plan.excess, glue);
+        let fit = Fit::new(list.as_slice().is_empty(), plan.excess, glue);
         Packed {
             boxed: BoxNode {
                 vertical,
