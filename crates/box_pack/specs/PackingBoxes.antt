@@ -101,7 +101,7 @@ moved_extent height packed = record {
 
 abbrev pub with_extent : Extent → Packed → Packed
 with_extent extent packed = record packed {
-  boxed = record packed.boxed { width = extent.width; height = extent.height; depth = extent.depth }
+  boxed = record packed.boxed { width = extent.width; height = extent.height; depth = extent.depth };
 }
 
 -- these sizes are limited too

@@ -66,7 +66,7 @@ at_order flexibility Filll = flexibility.filll
 abbrev pub highest : Flexibility → Order
 highest flexibility =
     if int_eq flexibility.filll (pos 0) then
-      (if int_eq flexibility.fill (pos 0) then
-        (if int_eq flexibility.fil (pos 0) then Normal else Fil)
-      else Fill)
+    (if int_eq flexibility.fill (pos 0) then
+    (if int_eq flexibility.fil (pos 0) then Normal else Fil)
+    else Fill)
     else Filll

@@ -124,7 +124,11 @@ impl Sizes {
         ensures range { (n : ℕ) → AreWithin n self.old → AreWithin (n + 2 ^ 31) self.new }
     {
         let item = Extent::of_leaders(&skip.leaders);
-        self.reach(skip.glue.width, i64::from(item.height), i64::from(item.depth));
+        self.reach(
+            skip.glue.width,
+            i64::from(item.height),
+            i64::from(item.depth),
+        );
         self.glue.add(skip.glue);
     }
 }

@@ -321,7 +321,12 @@ fn an_hbox_has_the_width_of_its_characters_and_the_reach_of_the_highest(
     rt: HostRuntime,
 ) -> Result<(), Fail> {
     let alloc = rt.alloc();
-    let list = three(alloc, letter(), boxed(alloc, (20, 60, 6), -15, (1, 0))?, kern(-7))?;
+    let list = three(
+        alloc,
+        letter(),
+        boxed(alloc, (20, 60, 6), -15, (1, 0))?,
+        kern(-7),
+    )?;
     let packed = hpack(list, Goal::Natural)?;
     assert_eq!(rt; sizes(&packed), (63, 75, 0));
     assert_eq!(rt; (packed.boxed.nesting, packed.boxed.count), (2, 3));
@@ -334,9 +339,16 @@ fn a_rule_without_sizes_counts_for_nothing_in_both_kinds_of_box(
 ) -> Result<(), Fail> {
     let alloc = rt.alloc();
     let running = (None, None, None);
-    let wide = hpack(two(alloc, rule(running), rule((Some(4), None, Some(3))))?, Goal::Natural)?;
+    let wide = hpack(
+        two(alloc, rule(running), rule((Some(4), None, Some(3))))?,
+        Goal::Natural,
+    )?;
     assert_eq!(rt; sizes(&wide), (4, 0, 3));
-    let high = vpack(two(alloc, rule((None, Some(4), Some(3))), rule(running))?, Goal::Natural, 9)?;
+    let high = vpack(
+        two(alloc, rule((None, Some(4), Some(3))), rule(running))?,
+        Goal::Natural,
+        9,
+    )?;
     assert_eq!(rt; sizes(&high), (0, 7, 0));
     Ok(())
 }
@@ -390,7 +402,10 @@ fn an_empty_box_is_never_bad(rt: HostRuntime) -> Result<(), Fail> {
     for size in [-100, 0, 100] {
         let packed = hpack(Vec::new(alloc), Goal::To(size))?;
         assert_eq!(rt; sizes(&packed), (size, 0, 0));
-        assert_eq!(rt; (packed.report, packed.badness, packed.boxed.set), (Report::None, 0, UNSET));
+        assert_eq!(rt;
+            (packed.report, packed.badness, packed.boxed.set),
+            (Report::None, 0, UNSET)
+        );
         assert_eq!(rt; (packed.boxed.nesting, packed.boxed.count), (1, 0));
     }
     Ok(())
@@ -410,9 +425,21 @@ fn each_limit_is_passed_by_one_more(rt: HostRuntime) -> Result<(), Fail> {
     let alloc = rt.alloc();
     assert_eq!(rt; passed(alloc, 1073741823, (499, 16777214))?, None);
     assert_eq!(rt; passed(alloc, -1073741823, (499, 16777214))?, None);
-    assert_eq!(rt; passed(alloc, 1073741824, (499, 16777214))?, Some(Cap::BoxSize));
-    assert_eq!(rt; passed(alloc, -1073741824, (499, 16777214))?, Some(Cap::BoxSize));
-    assert_eq!(rt; passed(alloc, -1073741824, (499, 16777215))?, Some(Cap::Items));
-    assert_eq!(rt; passed(alloc, -1073741824, (500, 16777215))?, Some(Cap::BoxNesting));
+    assert_eq!(rt;
+        passed(alloc, 1073741824, (499, 16777214))?,
+        Some(Cap::BoxSize)
+    );
+    assert_eq!(rt;
+        passed(alloc, -1073741824, (499, 16777214))?,
+        Some(Cap::BoxSize)
+    );
+    assert_eq!(rt;
+        passed(alloc, -1073741824, (499, 16777215))?,
+        Some(Cap::Items)
+    );
+    assert_eq!(rt;
+        passed(alloc, -1073741824, (500, 16777215))?,
+        Some(Cap::BoxNesting)
+    );
     Ok(())
 }

@@ -18,7 +18,7 @@ returns-clause-value c =
     let greater_height_fits : FitsSigned w64 c.greater-self.result = search rules in
     let greater_depth_fits : FitsSigned w64 c.greater-self-2.result = search rules in
     let wide : to_z w64 (of_z w64 c.plus-self.result) ≡ c.args.self.now.width +ℤ c.args.width =
-        let low = c.requires.width.low in let high = c.requires.width.high in omega (arith, ints) in
+    let low = c.requires.width.low in let high = c.requires.width.high in omega (arith, ints) in
     same_horizontal (to_z w64 (of_z w64 c.plus-self.result)) (c.args.self.now.width +ℤ c.args.width)
     (to_z w64 (of_z w64 c.greater-self.result)) (int_max c.args.self.now.height c.args.height)
     (to_z w64 (of_z w64 c.greater-self-2.result)) (int_max c.args.self.now.depth c.args.depth)

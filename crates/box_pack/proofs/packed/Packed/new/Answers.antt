@@ -17,8 +17,8 @@ returns c =
     (to_z-of_z w32 c.args.plan.extent.height (search rules))
     (to_z-of_z w32 c.args.plan.extent.depth (search rules))
     (c.new-fit.ensures
-        ∙ same_fit c.is_empty.result (is_empty c.args.list.items) (to_z w64 (of_z w64 c.args.plan.excess)) c.args.plan.excess
-        c.args.glue.now (glue_totals c.args.list.items)
-        (c.is_empty.ensures ∙ ap (λ l. length l == 0) c.as_slice.ensures.value ∙ length_none c.args.list.items)
-        (to_z-of_z w64 c.args.plan.excess (search rules)) c.requires.glue)
+    ∙ same_fit c.is_empty.result (is_empty c.args.list.items) (to_z w64 (of_z w64 c.args.plan.excess)) c.args.plan.excess
+    c.args.glue.now (glue_totals c.args.list.items)
+    (c.is_empty.ensures ∙ ap (λ l. length l == 0) c.as_slice.ensures.value ∙ length_none c.args.list.items)
+    (to_z-of_z w64 c.args.plan.excess (search rules)) c.requires.glue)
     c.requires.nesting c.requires.count

@@ -15,7 +15,7 @@ returns-clause-value c =
     let other_fits = c.ranges.width in
     let greater_fits : FitsSigned w64 c.greater-self.result = search rules in
     let long : to_z w64 (of_z w64 c.plus-self.result) ≡ c.args.self.now.length +ℤ (c.args.height +ℤ c.args.depth) =
-        let low = c.requires.length.low in let high = c.requires.length.high in omega (arith, ints) in
+    let low = c.requires.length.low in let high = c.requires.length.high in omega (arith, ints) in
     let hanging : to_z w64 (of_z w64 c.from-self.result) ≡ c.args.depth = omega (arith, ints) in
     same_vertical (to_z w64 (of_z w64 c.plus-self.result)) (c.args.self.now.length +ℤ (c.args.height +ℤ c.args.depth))
     (to_z w64 (of_z w64 c.greater-self.result)) (int_max c.args.self.now.width c.args.width)
