@@ -1,0 +1,6 @@
+use Rattle.dvi_out.specs.FamilyOf.{family_of}
+use Rattle.dvi_out.proofs.MarkLaws.{IsFoundFrom}
+use Rattle.dvi_out.proofs.movements.Movements.search.Given as goal
+
+abbrev pub invariant-loop-passed : goal.invariant-loop-passed
+invariant-loop-passed l = IsFoundFrom l.width (family_of l.self) l.passed l.seen

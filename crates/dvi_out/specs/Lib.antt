@@ -1,0 +1,16 @@
+pub mod Places
+pub mod DviReading
+pub mod SpellingMovements
+pub mod SpellingWalk
+pub mod SpellingPage
+pub mod SpellingFile
+pub mod SpellingStory
+pub mod FamilyOf
+pub mod CopiesOf
+pub mod WalkOf
+pub mod FrameOf
+pub mod Outside
+pub mod SpelledOf
+pub mod FileOf
+pub mod PageMade
+pub mod Examples
