@@ -1,0 +1,5 @@
+pub mod ChildLinks
+pub mod Prefixes
+pub mod Registers
+pub mod Linked
+pub mod Places
