@@ -1,2 +1,4 @@
 pub mod PrefixLemmas
 pub mod Linking
+pub mod Placing
+pub mod Counting

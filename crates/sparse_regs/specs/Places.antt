@@ -1,7 +1,7 @@
 -- How a tree is stored: the places of all nodes, those that are free among them, and the children of what is above all
 -- nodes.
-use Rattle.std.specs.Prelude.{◌≡◌, ◌≢◌, ◌⊎◌, ℕ, ◌+◌, ◌*◌, ◌%◌, ◌<◌, ◌≤◌, Bool, true, false, not, List, [], ◌∷◌, ◌++◌, length, map, Option, None, Some, slice_index_or, slice_set, count_by, vec_len, vec_capacity, if◌then◌else◌}
-use Rattle.std.specs.Option.{is_some, is_none, option_map, option_and_then}
+use Rattle.std.specs.Prelude.{◌≡◌, ◌≢◌, ◌⊎◌, ℕ, ◌+◌, ◌*◌, ◌%◌, ◌<◌, ◌≤◌, Bool, true, false, not, List, [], ◌∷◌, ◌++◌, length, map, Option, None, Some, slice_index_or, slice_set, vec_len, vec_capacity, if◌then◌else◌}
+use Rattle.std.specs.Option.{is_none}
 use Rattle.std.specs.List.{list_all}
 use Rattle.sparse_regs.specs.declared.prefix.Prefix.{Prefix}
 use Rattle.sparse_regs.specs.declared.node.Register.{Register}
@@ -9,7 +9,7 @@ use Rattle.sparse_regs.specs.declared.node.Node.{Node}
 use Rattle.sparse_regs.specs.declared.node.Content.{Content}
 use Rattle.sparse_regs.specs.declared.node.Content.TheVariants.{Index, Leaf}
 use Rattle.sparse_regs.specs.declared.arena.Arena.{Arena}
-use Rattle.sparse_regs.specs.Registers.{Numbered, Registers, is_kept}
+use Rattle.sparse_regs.specs.Registers.{Numbered, Registers, is_kept, taken_count}
 use Rattle.sparse_regs.specs.Linked.{IsLinked}
 
 -- ---- what stands at a place
@@ -94,7 +94,7 @@ IsFormed (Some node) = IsFormedContent node.prefix.digits node.content
 
 -- the free places are listed, each once
 pub record IsCounted {T : Type 0} (places : List (Option (Node T))) (free : List ℕ) : Type 0 where
-  pub count : count_by is_some places + length free ≡ length places
+  pub count : taken_count places + length free ≡ length places
   pub within : (k : ℕ) → k < length free → slice_index_or free k 0 < length places
   pub empty : (k : ℕ) → k < length free → node_at places (slice_index_or free k 0) ≡ None
   pub apart : (k l : ℕ) → k < l → l < length free → slice_index_or free k 0 ≢ slice_index_or free l 0

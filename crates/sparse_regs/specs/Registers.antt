@@ -1,8 +1,7 @@
 -- What a tree stands for: a value and a number of holders for every register, and for every index below the highest
 -- number of nodes so far the prefix whose node has it (etex.ch, on sparse arrays, where an element goes when no one
 -- refers to it and it has its value of the start).
-use Rattle.std.specs.Prelude.{◌≡◌, ℕ, ◌+◌, ◌-◌, ◌==◌, nat_lt, Bool, false, not, ◌||◌, ◌&&◌, List, [], ◌∷◌, length, Option, None, Some, slice_index_or, count_by, position, if◌then◌else◌}
-use Rattle.std.specs.Option.{is_some}
+use Rattle.std.specs.Prelude.{◌≡◌, ℕ, ◌+◌, ◌-◌, ◌==◌, nat_lt, Bool, false, not, ◌||◌, List, [], ◌∷◌, length, Option, None, Some, slice_index_or, position, if◌then◌else◌}
 use Rattle.std.specs.List.{list_any}
 use Rattle.sparse_regs.specs.declared.prefix.Prefix.{Prefix}
 use Rattle.sparse_regs.specs.declared.node.Register.{Register}
@@ -82,9 +81,14 @@ index_of s p = position (is_place_of p) s.places
 abbrev pub slots_of : {T : Type 0} → Registers T → ℕ
 slots_of s = length s.places
 
+abbrev pub taken_count : {A : Type 0} → List (Option A) → ℕ
+taken_count [] = 0
+taken_count (None ∷ xs) = taken_count xs
+taken_count (Some x ∷ xs) = taken_count xs + 1
+
 -- how many nodes stand
 abbrev pub nodes_of : {T : Type 0} → Registers T → ℕ
-nodes_of s = count_by is_some s.places
+nodes_of s = taken_count s.places
 
 -- no prefix that stands before and after has another index
 abbrev pub KeepsIndices : {T : Type 0} → Registers T → Registers T → Type 0
