@@ -2,3 +2,4 @@ pub mod PrefixLemmas
 pub mod Linking
 pub mod Placing
 pub mod Counting
+pub mod Shaping

@@ -1,6 +1,6 @@
 -- How a tree is stored: the places of all nodes, those that are free among them, and the children of what is above all
 -- nodes.
-use Rattle.std.specs.Prelude.{◌≡◌, ◌≢◌, ◌⊎◌, ℕ, ◌+◌, ◌*◌, ◌%◌, ◌<◌, ◌≤◌, Bool, true, false, not, List, [], ◌∷◌, ◌++◌, length, map, Option, None, Some, slice_index_or, slice_set, vec_len, vec_capacity, if◌then◌else◌}
+use Rattle.std.specs.Prelude.{◌≡◌, ◌≢◌, ◌⊎◌, ℕ, ◌+◌, ◌*◌, ◌%◌, ◌==◌, max, ◌<◌, ◌≤◌, Bool, true, false, not, List, [], ◌∷◌, ◌++◌, length, map, Option, None, Some, slice_index_or, slice_set, replicate, vec_len, vec_capacity, if◌then◌else◌}
 use Rattle.std.specs.Option.{is_none}
 use Rattle.std.specs.List.{list_all}
 use Rattle.sparse_regs.specs.declared.prefix.Prefix.{Prefix}
@@ -9,7 +9,7 @@ use Rattle.sparse_regs.specs.declared.node.Node.{Node}
 use Rattle.sparse_regs.specs.declared.node.Content.{Content}
 use Rattle.sparse_regs.specs.declared.node.Content.TheVariants.{Index, Leaf}
 use Rattle.sparse_regs.specs.declared.arena.Arena.{Arena}
-use Rattle.sparse_regs.specs.Registers.{Numbered, Registers, is_kept, taken_count}
+use Rattle.sparse_regs.specs.Registers.{Numbered, Registers, register_among, initial_register, is_kept, taken_count}
 use Rattle.sparse_regs.specs.Linked.{IsLinked}
 
 -- ---- what stands at a place
@@ -81,6 +81,10 @@ abbrev pub places_with_child : {T : Type 0} → Option ℕ → ℕ → Option �
 places_with_child None digit child places = places
 places_with_child (Some i) digit child places = slice_set places i (with_child digit child (node_at places i))
 
+-- what a new node has, by the number of its digits
+abbrev pub new_content : {T : Type 0} → T → ℕ → Content T
+new_content start digits = if digits == 4 then Leaf (initial_register start) else Index (replicate 16 None)
+
 -- ---- what holds at all times
 
 -- an index node has sixteen children, and a leaf has all four digits
@@ -100,11 +104,25 @@ pub record IsCounted {T : Type 0} (places : List (Option (Node T))) (free : List
   pub apart : (k l : ℕ) → k < l → l < length free → slice_index_or free k 0 ≢ slice_index_or free l 0
   pub few : length places ≤ 327680
 
+-- a place was taken for a new node
+pub record IsSpare {T : Type 0} (places : List (Option (Node T))) (free : List ℕ) (at : ℕ) : Type 0 where
+  pub count : taken_count places + length free + 1 ≡ length places
+  pub here : at < length places
+  pub vacant : node_at places at ≡ None
+  pub within : (k : ℕ) → k < length free → slice_index_or free k 0 < length places
+  pub empty : (k : ℕ) → k < length free → node_at places (slice_index_or free k 0) ≡ None
+  pub apart : (k l : ℕ) → k < l → l < length free → slice_index_or free k 0 ≢ slice_index_or free l 0
+  pub other : (k : ℕ) → k < length free → slice_index_or free k 0 ≢ at
+  pub few : 0 < length free → length places ≤ 327680
+
+pub record IsStored {T : Type 0} (top : List (Option ℕ)) (places : List (Option (Node T))) (free : List ℕ) : Type 0 where
+  pub linked : IsLinked (prefix_from places) (parent_from places) (child_from top places)
+  pub formed : (i : ℕ) → IsFormed (node_at places i)
+  pub sixteen : length top ≡ 16
+  pub counted : IsCounted places free
+
 pub record IsArena {T : Type 0} (arena : Arena T) : Type 0 where
-  pub linked : IsLinked (prefix_from arena.places.items) (parent_from arena.places.items) (child_from arena.top arena.places.items)
-  pub formed : (i : ℕ) → IsFormed (node_at arena.places.items i)
-  pub top : length arena.top ≡ 16
-  pub counted : IsCounted arena.places.items arena.free.items
+  pub stored : IsStored arena.top arena.places.items arena.free.items
   -- a place can be freed without memory
   pub room : vec_len arena.places ≤ vec_capacity arena.free
 
@@ -125,6 +143,11 @@ pub record IsTree {T : Type 0} (is_initial : T → Bool) (arena : Arena T) : Typ
   pub linked : IsArena arena
   pub tight : IsTightBut is_initial None arena.places.items
 
+-- there is room for some more nodes, and to free them
+pub record HasRoom {T : Type 0} (count : ℕ) (arena : Arena T) : Type 0 where
+  pub places : vec_len arena.places + count ≤ vec_capacity arena.places
+  pub free : vec_len arena.places + count ≤ vec_capacity arena.free
+
 -- ---- what it stands for
 
 abbrev pub kept_in_content : {T : Type 0} → ℕ → Content T → List (Numbered T)
@@ -141,3 +164,16 @@ kept_from (place ∷ places) = kept_in place ++ kept_from places
 
 abbrev pub registers_of : {T : Type 0} → List (Option (Node T)) → Registers T
 registers_of places = record { kept = kept_from places; places = map prefix_in places }
+
+-- nodes were made, which change no register
+pub record Grew {T : Type 0} (start : T) (old new : Arena T) : Type 0 where
+  pub stays : (i : ℕ) (p : Prefix) → prefix_from old.places.items i ≡ Some p → prefix_from new.places.items i ≡ Some p
+  pub registers : (m : ℕ) → register_among start (kept_from new.places.items) m ≡ register_among start (kept_from old.places.items) m
+  pub slots : length new.places.items ≡ max (length old.places.items) (taken_count new.places.items)
+  pub more : taken_count old.places.items ≤ taken_count new.places.items
+
+-- nodes went, which change no register
+pub record Shrank {T : Type 0} (start : T) (old new : Arena T) : Type 0 where
+  pub stays : (i : ℕ) (p : Prefix) → prefix_from new.places.items i ≡ Some p → prefix_from old.places.items i ≡ Some p
+  pub registers : (m : ℕ) → register_among start (kept_from new.places.items) m ≡ register_among start (kept_from old.places.items) m
+  pub slots : length new.places.items ≡ length old.places.items

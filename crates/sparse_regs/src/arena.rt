@@ -1,14 +1,16 @@
 //! The places of a tree's nodes: a node keeps its place as long as it stands, and a place that is left goes to the next
 //! new node.
-ghost use Rattle.std.specs.Prelude.{◌≡◌, ◌≢◌, ℕ, ◌+◌, ◌-◌, ◌<◌, ◌≤◌, ◌^◌, ◌%◌, IfSome, IfNone, IfOk, OnOk, OnErr, Some, None, [], max, vec_len, vec_capacity, slice_index_or, slice_set};
+ghost use Rattle.std.specs.Prelude.{◌≡◌, ◌≢◌, ℕ, ◌+◌, ◌-◌, ◌<◌, ◌≤◌, ◌^◌, ◌%◌, ◌∷◌, ◌++◌, true, false, IfSome, IfNone, IsSome, IfOk, OnOk, OnErr, Some, None, [], max, length, vec_len, vec_capacity, slice_index_or, slice_set};
+ghost use Rattle.std.specs.Option.{option_copied};
 ghost use Rattle.sparse_regs.specs.Prefixes.{whole};
-ghost use Rattle.sparse_regs.specs.Registers.{register_among, nodes_of, KeepsIndices};
-ghost use Rattle.sparse_regs.specs.Places.{IsArena, IsTightBut, node_at, prefix_from, child_from, leaf_from, with_child, top_with_child, places_with_child, kept_from, registers_of};
+ghost use Rattle.sparse_regs.specs.Registers.{register_among, taken_count};
+ghost use Rattle.sparse_regs.specs.Linked.{of, IsPrefix, shorter};
+ghost use Rattle.sparse_regs.specs.Places.{IsArena, IsTree, IsTightBut, IsCounted, IsSpare, HasRoom, Grew, Shrank, node_at, prefix_from, child_from, leaf_from, stands_in, top_with_child, places_with_child, kept_from};
 
 use crate::children::Children;
-use crate::node::{Content, Node, Register};
-use crate::places::child_at;
-use crate::prefix::{DIGITS, EMPTY, Prefix, path};
+use crate::node::Node;
+use crate::places;
+use crate::prefix::{EMPTY, Prefix, path};
 use crate::slot::Slot;
 use std::alloc::{AllocError, Global};
 use std::mem;
@@ -23,7 +25,7 @@ pub struct Arena<T> {
 
 impl<T: Slot> Arena<T> {
     pub fn new(alloc: Global) -> Arena<T>
-        ensures arena { IsArena result }
+        ensures tree { IsTree T.is_initial result }
         ensures none { result.places.items ≡ [] }
     {
         Arena {
@@ -35,12 +37,205 @@ impl<T: Slot> Arena<T> {
 
     /// The child of a node, or of what is above all nodes.
     pub fn child(&self, parent: Option<u32>, digit: u8) -> Option<u32>
-        requires digit { digit < 16 }
+        requires { digit < 16 }
         ensures { result ≡ child_from self.now.top self.now.places.items parent digit }
     {
         match parent {
             None => self.top.get(digit),
-            Some(at) => child_at(&self.places, at as usize, digit),
+            Some(at) => places::child_at(&self.places, at as usize, digit),
         }
     }
+
+    /// The leaf of a register, if it stands.
+    pub fn find(&self, number: u16) -> Option<u32>
+        requires { IsArena self.now }
+        ensures some { IfSome result (λ at. prefix_from self.now.places.items at ≡ Some (whole number)) }
+        ensures none { IfNone result ((i : ℕ) → prefix_from self.now.places.items i ≢ Some (whole number)) }
+    {
+        let path = path(number);
+        let digits = path.as_slice();
+        let mut node = None;
+        for digit in digits {
+            node = Some(self.child(node, *digit)?);
+        }
+        node
+    }
+
+    /// Makes room for the nodes of a register.
+    fn reserve(&mut self) -> Result<(), AllocError>
+        requires { IsArena self.old }
+        ensures arena { IsArena self.new }
+        ensures places { self.new.places.items ≡ self.old.places.items }
+        ensures room { OnOk result (HasRoom 4 self.new) }
+    {
+        self.places.reserve(4)?;
+        self.free
+            .reserve(self.places.len() - self.free.len() + 4)?;
+        Ok(())
+    }
+
+    /// Links a node with its parent, or takes the link away.
+    fn link(&mut self, parent: Option<u32>, digit: u8, child: Option<u32>)
+        requires digit { digit < 16 }
+        requires child { IfSome child (λ at. at + 1 < 2 ^ 32) }
+        requires parent { IfSome parent (λ at. at < vec_len self.old.places) }
+        ensures top { self.new.top ≡ top_with_child parent digit child self.old.top }
+        ensures places { self.new.places.items ≡ places_with_child parent digit child self.old.places.items }
+        ensures len { vec_len self.new.places ≡ vec_len self.old.places }
+        ensures capacity { vec_capacity self.new.places ≡ vec_capacity self.old.places }
+        ensures free { self.new.free ≡ self.old.free }
+    {
+        match parent {
+            None => self.top.set(digit, child),
+            Some(at) => places::set_child(&mut self.places, at as usize, digit, child),
+        }
+    }
+
+    /// Makes a node below another.
+    fn make(&mut self, parent: Option<u32>, prefix: Prefix) -> u32
+        requires arena { IsArena self.old }
+        requires prefix { IsPrefix prefix }
+        requires above { of (prefix_from self.old.places.items) parent ≡ Some (shorter prefix) }
+        requires absent { child_from self.old.top self.old.places.items parent (prefix.number % 16) ≡ None }
+        requires room { HasRoom 1 self.old }
+        ensures arena { IsArena self.new }
+        ensures here { prefix_from self.new.places.items result ≡ Some prefix }
+        ensures grew { Grew T.start self.old self.new }
+        ensures tight { IsTightBut T.is_initial parent self.old.places.items → IsTightBut T.is_initial (Some result) self.new.places.items }
+        ensures room { (k : ℕ) → HasRoom (k + 1) self.old → HasRoom k self.new }
+    {
+        let at = take_place(&mut self.places, &mut self.free);
+        self.places[at as usize] = Some(Node {
+            prefix,
+            parent,
+            content: places::new_content(prefix),
+        });
+        self.link(parent, prefix.last_digit(), Some(at));
+        at
+    }
+
+    /// The child of a node, which is made where there is none.
+    fn step(&mut self, parent: Option<u32>, prefix: Prefix) -> u32
+        requires arena { IsArena self.old }
+        requires prefix { IsPrefix prefix }
+        requires above { of (prefix_from self.old.places.items) parent ≡ Some (shorter prefix) }
+        requires room { HasRoom 1 self.old }
+        ensures arena { IsArena self.new }
+        ensures here { prefix_from self.new.places.items result ≡ Some prefix }
+        ensures grew { Grew T.start self.old self.new }
+        ensures tight { IsTightBut T.is_initial parent self.old.places.items → IsTightBut T.is_initial (Some result) self.new.places.items }
+        ensures room { (k : ℕ) → HasRoom (k + 1) self.old → HasRoom k self.new }
+    {
+        match self.child(parent, prefix.last_digit()) {
+            Some(child) => child,
+            None => self.make(parent, prefix),
+        }
+    }
+
+    /// The leaf of a register, with all nodes on the way to it.
+    fn reach(&mut self, number: u16) -> u32
+        requires arena { IsArena self.old }
+        requires room { HasRoom 4 self.old }
+        ensures arena { IsArena self.new }
+        ensures here { prefix_from self.new.places.items result ≡ Some (whole number) }
+        ensures grew { Grew T.start self.old self.new }
+        ensures tight { IsTightBut T.is_initial None self.old.places.items → IsTightBut T.is_initial (Some result) self.new.places.items }
+    {
+        let path = path(number);
+        let digits = path.as_slice();
+        let mut node = None;
+        let mut prefix = EMPTY;
+        for digit in digits {
+            prefix = prefix.longer(*digit);
+            node = Some(self.step(node, prefix));
+        }
+        match node {
+            Some(leaf) => leaf,
+            None => unreachable!(),
+        }
+    }
+
+    /// Makes the leaf of a register, with all nodes on the way to it.
+    pub fn grow(&mut self, number: u16) -> Result<u32, AllocError>
+        requires { IsTree T.is_initial self.old }
+        ensures arena { IsArena self.new }
+        ensures here { IfOk result (λ at. prefix_from self.new.places.items at ≡ Some (whole number)) }
+        ensures grew { OnOk result (Grew T.start self.old self.new) }
+        ensures tight { IfOk result (λ at. IsTightBut T.is_initial (Some at) self.new.places.items) }
+        ensures err { OnErr result (self.new.places.items ≡ self.old.places.items) }
+    {
+        self.reserve()?;
+        Ok(self.reach(number))
+    }
+
+    /// Takes a node without children away, and gives its parent.
+    fn remove(&mut self, at: u32) -> Option<u32>
+        requires arena { IsArena self.old }
+        requires here { IsSome (node_at self.old.places.items at) }
+        requires idle { stands_in T.is_initial (node_at self.old.places.items at) ≡ false }
+        ensures arena { IsArena self.new }
+        ensures above { IfSome (prefix_from self.old.places.items at) (λ prefix. of (prefix_from self.new.places.items) result ≡ Some (shorter prefix)) }
+        ensures shrank { Shrank T.start self.old self.new }
+        ensures tight { IsTightBut T.is_initial (Some at) self.old.places.items → IsTightBut T.is_initial result self.new.places.items }
+    {
+        let Some(node) = mem::replace(&mut self.places[at as usize], None) else {
+            unreachable!()
+        };
+        self.free.push_reserved(at);
+        let Node {
+            prefix,
+            parent,
+            ..
+        } = node;
+        self.link(parent, prefix.last_digit(), None);
+        parent
+    }
+
+    /// Takes a leaf away that need not stand, and each node above that is then empty.
+    pub fn prune(&mut self, leaf: u32)
+        requires arena { IsArena self.old }
+        requires here { IsSome (node_at self.old.places.items leaf) }
+        requires tight { IsTightBut T.is_initial (Some leaf) self.old.places.items }
+        ensures tree { IsTree T.is_initial self.new }
+        ensures shrank { Shrank T.start self.old self.new }
+    {
+        let mut next = Some(leaf);
+        'climbing: while let Some(at) = next {
+            if places::stands(&self.places, at as usize) {
+                return;
+            }
+            next = self.remove(at);
+        }
+    }
+}
+
+/// Takes a free place, or a new one.
+fn take_place<T>(places: &mut Vec<Option<Node<T>>>, free: &mut Vec<u32>) -> u32
+    requires counted { IsCounted places.old.items free.old.items }
+    requires room { vec_len places.old < vec_capacity places.old }
+    ensures spare { IsSpare places.new.items free.new.items result }
+    ensures same { (k : ℕ) → node_at places.new.items k ≡ node_at places.old.items k }
+    ensures kept { kept_from places.new.items ≡ kept_from places.old.items }
+    ensures count { taken_count places.new.items ≡ taken_count places.old.items }
+    ensures len { length places.new.items ≡ max (length places.old.items) (taken_count places.old.items + 1) }
+    ensures capacity { vec_capacity places.new ≡ vec_capacity places.old }
+    ensures free_capacity { vec_capacity free.new ≡ vec_capacity free.old }
+{
+    match free.pop() {
+        Some(at) => at,
+        None => add_place(places),
+    }
+}
+
+/// Adds an empty place.
+fn add_place<T>(places: &mut Vec<Option<Node<T>>>) -> u32
+    requires few { length places.old.items ≤ 327680 }
+    requires room { vec_len places.old < vec_capacity places.old }
+    ensures at { result ≡ length places.old.items }
+    ensures items { places.new.items ≡ places.old.items ++ None ∷ [] }
+    ensures capacity { vec_capacity places.new ≡ vec_capacity places.old }
+{
+    let at = places.len() as u32;
+    places.push_reserved(None);
+    at
 }

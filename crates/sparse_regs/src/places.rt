@@ -2,9 +2,11 @@
 ghost use Rattle.std.specs.Prelude.{◌≡◌, ◌+◌, ◌<◌, ◌^◌, IfSome, IsSome, None, length, slice_set};
 ghost use Rattle.std.specs.Option.{option_copied, option_map};
 ghost use Rattle.sparse_regs.specs.Registers.{with_holder, without_holder, with_value, with_resized};
-ghost use Rattle.sparse_regs.specs.Places.{node_at, child_in, child_in_content, leaf_in, with_child, with_leaf};
+ghost use Rattle.sparse_regs.specs.Places.{node_at, child_in, child_in_content, leaf_in, with_child, with_leaf, stands_in, stands_content, new_content};
 
+use crate::children::Children;
 use crate::node::{Content, Node, Register};
+use crate::prefix::{DIGITS, Prefix};
 use crate::slot::Slot;
 use std::mem;
 
@@ -117,5 +119,38 @@ pub fn resize_value<T: Slot>(places: &mut [Option<Node<T>>], at: usize, part: u8
         if let Content::Leaf(register) = &mut node.content {
             register.value.resize(part, value);
         }
+    }
+}
+
+/// Whether the node at a place has to stand: it has children, or its register is held or isn't initial.
+pub fn stands<T: Slot>(places: &[Option<Node<T>>], at: usize) -> bool
+    ensures { result ≡ stands_in T.is_initial (node_at places.now at) }
+{
+    match node_at(places, at) {
+        Some(node) => stands_by(&node.content),
+        None => true,
+    }
+}
+
+fn stands_by<T: Slot>(content: &Content<T>) -> bool
+    ensures { result ≡ stands_content T.is_initial content.now }
+{
+    match content {
+        Content::Index(children) => !children.is_empty(),
+        Content::Leaf(register) => register.holders > 0 || !register.value.is_initial(),
+    }
+}
+
+/// What a new node has: no children, or with all four digits the value of the start and no holder.
+pub fn new_content<T: Slot>(prefix: Prefix) -> Content<T>
+    ensures { result ≡ new_content T.start prefix.digits }
+{
+    if prefix.digits == DIGITS {
+        Content::Leaf(Register {
+            value: T::initial(),
+            holders: 0,
+        })
+    } else {
+        Content::Index(Children::new())
     }
 }
