@@ -3,3 +3,5 @@ pub mod Linking
 pub mod Placing
 pub mod Counting
 pub mod Shaping
+pub mod Paths
+pub mod Changing

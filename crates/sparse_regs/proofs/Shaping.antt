@@ -1,6 +1,6 @@
 -- What is stored stays in order where a node is made and where one goes.
 use Rattle.std.proofs.Common.{◌≡◌, ◌≢◌, ℕ, ◌+◌, ◌-◌, ◌*◌, ◌/◌, ◌%◌, ◌<◌, ◌≤◌, inl, inr, refl, ap, sym, ◌∙◌, subst, arith, List, [], ◌∷◌, ◌++◌, length, map, Bool, true, false, suc, zero, length-append}
-use Rattle.std.specs.Prelude.{◌⊎◌, ◌==◌, ◌&&◌, ◌||◌, nat_lt, max, Option, None, Some, slice_index_or, slice_set, not, replicate, if◌then◌else◌}
+use Rattle.std.specs.Prelude.{◌⊎◌, ◌==◌, ◌&&◌, ◌||◌, nat_lt, max, Option, None, Some, IfSome, IsSome, slice_index_or, slice_set, not, replicate, if◌then◌else◌}
 use Rattle.std.specs.Option.{is_some, is_none}
 use Rattle.std.specs.List.{list_any, list_all, IsDistinct, AllByRecursion}
 use Rattle.std.proofs.lemmas.Bool.{cases_eq, eq-eqb, eqb-true, ne_eqb, false≢true, false_from_ne_true, and_parts, and_from, lt-ltb}
@@ -14,11 +14,13 @@ use Rattle.sparse_regs.specs.declared.node.Register.{Register}
 use Rattle.sparse_regs.specs.declared.node.Node.{Node}
 use Rattle.sparse_regs.specs.declared.node.Content.{Content}
 use Rattle.sparse_regs.specs.declared.node.Content.TheVariants.{Index, Leaf}
+use Rattle.sparse_regs.specs.declared.arena.Arena.{Arena}
 use Rattle.sparse_regs.specs.Prefixes.{empty_prefix, longer, whole, same_prefix}
 use Rattle.sparse_regs.specs.Registers.{Numbered, register_among, initial_register, is_kept, taken_count}
 use Rattle.sparse_regs.specs.Linked.{of, IsPrefix, IsLinked, shorter}
-use Rattle.sparse_regs.specs.Places.{node_at, prefix_in, parent_in, child_in, child_in_content, prefix_from, parent_from, child_from, with_child, top_with_child, places_with_child, new_content, IsFormed, IsFormedContent, IsStored, IsCounted, IsSpare, stands_in, stands_content, IsTightBut, kept_in, kept_in_content, kept_from}
+use Rattle.sparse_regs.specs.Places.{node_at, prefix_in, parent_in, child_in, child_in_content, prefix_from, parent_from, child_from, with_child, top_with_child, places_with_child, new_content, IsFormed, IsFormedContent, IsStored, IsCounted, IsSpare, IsArena, Grew, Shrank, stands_in, stands_content, IsTightBut, kept_in, kept_in_content, kept_from}
 use Rattle.sparse_regs.proofs.PrefixLemmas.{prefix_ext, longer-shorter, same_or_not}
+use Rattle.sparse_regs.proofs.Paths.{height}
 use Rattle.sparse_regs.proofs.Placing.{IsPut, put, at-same, at-other, at-within, put-prefix, put-formed, made-tight, gone-tight, made-linked, gone-linked, is_some-with_child, kept_in-with_child}
 use Rattle.sparse_regs.proofs.Counting.{kept-same, count-same, count-taken, count-left, is_leaf_of, leaf-alone, leaf-absent, leaf-made, leaf-gone}
 
@@ -463,12 +465,82 @@ going-tight is_initial top top' old new free free' at node h tight =
     gone-tight is_initial old new at node.parent (node.prefix.number % 16) (going-put is_initial top top' old new free free' at node h) tight
 
 -- where the parent of a node stands, there is a place
-pub going-within : {T : Type 0} (is_initial : T → Bool) (top : List (Option ℕ)) (places : List (Option (Node T))) (free : List ℕ) (at : ℕ) (node : Node T)
+pub going-within : {T : Type 0} (top : List (Option ℕ)) (places : List (Option (Node T))) (free : List ℕ) (at : ℕ) (node : Node T)
     → IsStored top places free → node_at places at ≡ Some node → (j : ℕ) → node.parent ≡ Some j → j < length places
-going-within is_initial top places free at node h here j e =
+going-within top places free at node h here j e =
     at-within places j (shorter node.prefix)
       (ap (of (prefix_from places)) (sym e) ∙ ap (λ x. of (prefix_from places) (parent_in x)) (sym here) ∙ h.linked.up at node.prefix (ap prefix_in here))
 
 -- a place that is taken isn't free
 pub free-fewer : {T : Type 0} (places : List (Option (Node T))) (free : List ℕ) (at : ℕ) (node : Node T) → IsCounted places free → node_at places at ≡ Some node → length free < length places
 free-fewer places free at node h here = omega (arith, h.count, count-left places at node here)
+
+if_each : (x : Option ℕ) (P : ℕ → Type 0) → ((j : ℕ) → x ≡ Some j → P j) → IfSome x P
+if_each None P h = tt
+if_each (Some j) P h = h j refl
+
+pub parent-within : {T : Type 0} (top : List (Option ℕ)) (places : List (Option (Node T))) (free : List ℕ) (at : ℕ) (node : Node T) (len : ℕ)
+    → IsStored top places free → node_at places at ≡ Some node → len ≡ length places → IfSome node.parent (λ j. j < len)
+parent-within top places free at node len h here e =
+    if_each node.parent (λ j. j < len) (λ j f. omega (arith, e, going-within top places free at node h here j f))
+
+-- ---- several changes in a row
+
+pub grew-refl : {T : Type 0} (start : T) (arena : Arena T) → IsArena arena → Grew start arena arena
+grew-refl start arena h = record {
+  stays = λ i p e. e;
+  registers = λ m. refl;
+  slots = omega (arith, h.stored.counted.count);
+  more = omega arith;
+}
+
+pub grew-trans : {T : Type 0} (start : T) (a b c : Arena T) → Grew start a b → Grew start b c → Grew start a c
+grew-trans start a b c first next = record {
+  stays = λ i p e. next.stays i p (first.stays i p e);
+  registers = λ m. next.registers m ∙ first.registers m;
+  slots = omega (arith, first.slots, next.slots, next.more);
+  more = omega (arith, first.more, next.more);
+}
+
+pub shrank-refl : {T : Type 0} (start : T) (arena : Arena T) → Shrank start arena arena
+shrank-refl start arena = record { stays = λ i p e. e; registers = λ m. refl; slots = refl }
+
+pub shrank-trans : {T : Type 0} (start : T) (a b c : Arena T) → Shrank start a b → Shrank start b c → Shrank start a c
+shrank-trans start a b c first next = record {
+  stays = λ i p e. first.stays i p (next.stays i p e);
+  registers = λ m. next.registers m ∙ first.registers m;
+  slots = next.slots ∙ first.slots;
+}
+
+-- all nodes have to stand where the last one does too
+pub tight-all : {T : Type 0} (is_initial : T → Bool) (places : List (Option (Node T))) (at : ℕ) → IsTightBut is_initial (Some at) places → stands_in is_initial (node_at places at) ≡ true
+    → IsTightBut is_initial None places
+tight-all is_initial places at tight here i ne = elim (cases_eq i at) [
+  inl e ↦ ap (λ k. stands_in is_initial (node_at places k)) e ∙ here
+  | inr other ↦ tight i (λ (e : Some i ≡ Some at). other (cc))
+]
+
+pub climb-smaller : {T : Type 0} (places : List (Option (Node T))) (at : ℕ) (y : Option Prefix) → IsSome (node_at places at) → ((i : ℕ) (p : Prefix) → prefix_from places i ≡ Some p → IsPrefix p)
+    → IfSome (prefix_from places at) (λ p. y ≡ Some (shorter p)) → height y < height (prefix_from places at)
+climb-smaller {T} places at y here shaped above = by_node (node_at places at) refl here above
+  where
+    by_node : (x : Option (Node T)) → node_at places at ≡ x → IsSome x → IfSome (prefix_in x) (λ p. y ≡ Some (shorter p)) → height y < height (prefix_from places at)
+    by_node None e h f = absurd (cc)
+    by_node (Some node) e h f =
+        let shape : IsPrefix node.prefix = shaped at node.prefix (ap prefix_in e) in
+        let low : height y ≡ node.prefix.digits - 1 = ap height f in
+        let high : height (prefix_from places at) ≡ node.prefix.digits = ap (λ x. height (prefix_in x)) e in
+        omega (arith, low, high, shape.least)
+
+some_by_prefix : {T : Type 0} (x : Option (Node T)) (p : Prefix) → prefix_in x ≡ Some p → IsSome x
+some_by_prefix None p e = cc
+some_by_prefix (Some node) p e = refl
+
+pub climb-here : {T : Type 0} (old new : List (Option (Node T))) (at : ℕ) (next : Option ℕ) → IsSome (node_at old at)
+    → IfSome (prefix_from old at) (λ p. of (prefix_from new) next ≡ Some (shorter p)) → IfSome next (λ j. IsSome (node_at new j))
+climb-here {T} old new at next here above = by_node (node_at old at) next here above
+  where
+    by_node : (x : Option (Node T)) (next : Option ℕ) → IsSome x → IfSome (prefix_in x) (λ p. of (prefix_from new) next ≡ Some (shorter p)) → IfSome next (λ j. IsSome (node_at new j))
+    by_node None next h f = absurd (cc)
+    by_node (Some node) None h f = tt
+    by_node (Some node) (Some j) h f = some_by_prefix (node_at new j) (shorter node.prefix) f

@@ -13,7 +13,6 @@ use crate::places;
 use crate::prefix::{EMPTY, Prefix, path};
 use crate::slot::Slot;
 use std::alloc::{AllocError, Global};
-use std::mem;
 
 #[derive(Drop)]
 pub struct Arena<T> {
@@ -178,15 +177,12 @@ impl<T: Slot> Arena<T> {
         ensures shrank { Shrank T.start self.old self.new }
         ensures tight { IsTightBut T.is_initial (Some at) self.old.places.items → IsTightBut T.is_initial result self.new.places.items }
     {
-        let Some(node) = mem::replace(&mut self.places[at as usize], None) else {
-            unreachable!()
-        };
-        self.free.push_reserved(at);
         let Node {
             prefix,
             parent,
             ..
-        } = node;
+        } = places::vacate(&mut self.places, at as usize);
+        self.free.push_reserved(at);
         self.link(parent, prefix.last_digit(), None);
         parent
     }

@@ -1,5 +1,5 @@
 //! What is read and changed at one place.
-ghost use Rattle.std.specs.Prelude.{◌≡◌, ◌+◌, ◌<◌, ◌^◌, IfSome, IsSome, None, length, slice_set};
+ghost use Rattle.std.specs.Prelude.{◌≡◌, ◌+◌, ◌<◌, ◌^◌, IfSome, IsSome, Some, None, length, slice_set, vec_len, vec_capacity};
 ghost use Rattle.std.specs.Option.{option_copied, option_map};
 ghost use Rattle.sparse_regs.specs.Registers.{with_holder, without_holder, with_value, with_resized};
 ghost use Rattle.sparse_regs.specs.Places.{node_at, child_in, child_in_content, leaf_in, with_child, with_leaf, stands_in, stands_content, new_content};
@@ -152,5 +152,19 @@ pub fn new_content<T: Slot>(prefix: Prefix) -> Content<T>
         })
     } else {
         Content::Index(Children::new())
+    }
+}
+
+/// Takes the node away from a place.
+pub fn vacate<T>(places: &mut Vec<Option<Node<T>>>, at: usize) -> Node<T>
+    requires here { IsSome (node_at places.old.items at) }
+    ensures node { node_at places.old.items at ≡ Some result }
+    ensures items { places.new.items ≡ slice_set places.old.items at None }
+    ensures len { vec_len places.new ≡ vec_len places.old }
+    ensures capacity { vec_capacity places.new ≡ vec_capacity places.old }
+{
+    match mem::replace(&mut places[at], None) {
+        Some(node) => node,
+        None => unreachable!(),
     }
 }

@@ -1,27 +1,16 @@
-use Rattle.std.proofs.Common.{rules, ◌≡◌, ◌≢◌, ℕ, ◌+◌, ◌-◌, ◌<◌, ◌≤◌, ◌^◌, ◌%◌, ◌∷◌, ◌++◌, true, false, IfSome, IfNone, IsSome, IfOk, OnOk, OnErr, Some, None, [], max, length, vec_len, vec_capacity, slice_index_or, slice_set, ◌*◌, ◌/◌, Bool, nat_eq, nat_lt, List, bit_and, bit_or, Fits, w8, w32, w64, Bor, MutBor}
-use Rattle.std.specs.Option.{option_copied}
-use Rattle.sparse_regs.specs.Prefixes.{whole}
-use Rattle.sparse_regs.specs.Registers.{register_among, taken_count}
-use Rattle.sparse_regs.specs.Linked.{of, IsPrefix, shorter}
-use Rattle.sparse_regs.specs.Places.{IsArena, IsTree, IsTightBut, IsCounted, IsSpare, HasRoom, Grew, Shrank, node_at, prefix_from, child_from, leaf_from, stands_in, top_with_child, places_with_child, kept_from}
+-- Where a child is missing on the way to a register, it has no leaf.
+use Rattle.std.proofs.Common.{◌≡◌, ap, sym, ◌∙◌, refl, arith, length}
+use Rattle.std.specs.Prelude.{slice_index_or}
+use Rattle.sparse_regs.specs.Places.{prefix_from, parent_from, child_from}
+use Rattle.sparse_regs.proofs.Paths.{way-ends, if_none}
 use Rattle.sparse_regs.proofs.arena.Arena.find.Goals as goal
 
--- src/arena.rt:58:9
 pub loop-digit-init : goal.loop-digit-init
-loop-digit-init g c = ?
+loop-digit-init g c = record { path = c.as_slice-digits.ensures.value ∙ c.path-path.ensures; above = refl }
 
--- src/arena.rt:59:25
 pub returns-in_err-child-clause-none : goal.returns-in_err-child-clause-none
-returns-in_err-child-clause-none g c = ?
-
--- src/arena.rt:58:9
-pub loop-digit-preserved : goal.loop-digit-preserved
-loop-digit-preserved g c = ?
-
--- src/arena.rt:50:5
-pub returns-clause-some : goal.returns-clause-some
-returns-clause-some g c = ?
-
--- src/arena.rt:50:5
-pub returns-clause-none : goal.returns-clause-none
-returns-clause-none g c = ?
+returns-in_err-child-clause-none g c =
+    if_none _ _ (way-ends (prefix_from c.args.self.now.places.items) (parent_from c.args.self.now.places.items) (child_from c.args.self.now.top c.args.self.now.places.items) c.requires.stored.linked
+      c.args.number c.loop-digit.digit-index (slice_index_or c.as_slice-digits.result.now c.loop-digit.digit-index 0) c.loop-digit.node
+      (omega (arith, ap length c.loop-digit.invariant.path)) (omega arith) (ap (λ xs. slice_index_or xs c.loop-digit.digit-index 0) c.loop-digit.invariant.path)
+      c.loop-digit.invariant.above (sym c.child.ensures ∙ c.in_err-child.was))

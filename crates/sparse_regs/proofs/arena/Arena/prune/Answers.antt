@@ -1,39 +1,25 @@
-use Rattle.std.proofs.Common.{rules, ◌≡◌, ◌≢◌, ℕ, ◌+◌, ◌-◌, ◌<◌, ◌≤◌, ◌^◌, ◌%◌, ◌∷◌, ◌++◌, true, false, IfSome, IfNone, IsSome, IfOk, OnOk, OnErr, Some, None, [], max, length, vec_len, vec_capacity, slice_index_or, slice_set, ◌*◌, ◌/◌, Bool, nat_eq, nat_lt, List, bit_and, bit_or, Fits, w8, w32, w64, Bor, MutBor}
-use Rattle.std.specs.Option.{option_copied}
-use Rattle.sparse_regs.specs.Prefixes.{whole}
-use Rattle.sparse_regs.specs.Registers.{register_among, taken_count}
-use Rattle.sparse_regs.specs.Linked.{of, IsPrefix, shorter}
-use Rattle.sparse_regs.specs.Places.{IsArena, IsTree, IsTightBut, IsCounted, IsSpare, HasRoom, Grew, Shrank, node_at, prefix_from, child_from, leaf_from, stands_in, top_with_child, places_with_child, kept_from}
+-- Each turn takes a node away that need not stand, and goes on with its parent.
+use Rattle.std.proofs.Common.{◌≡◌, ap, sym, ◌∙◌, arith}
+use Rattle.std.specs.Prelude.{Some, None}
+use Rattle.sparse_regs.specs.Places.{stands_in, node_at}
+use Rattle.sparse_regs.proofs.Shaping.{shrank-trans, tight-all, climb-smaller, climb-here}
 use Rattle.sparse_regs.proofs.arena.Arena.prune.Goals as goal
 
--- src/arena.rt:203:9
-pub climbing-init : goal.climbing-init
-climbing-init g c = ?
-
--- src/arena.rt:205:17
-pub returns-then-stands-clause-tree : goal.returns-then-stands-clause-tree
-returns-then-stands-clause-tree g c = ?
-
--- src/arena.rt:205:17
-pub returns-then-stands-clause-shrank : goal.returns-then-stands-clause-shrank
-returns-then-stands-clause-shrank g c = ?
-
--- src/arena.rt:207:13
-pub remove-next-requires-clause-arena : goal.remove-next-requires-clause-arena
-remove-next-requires-clause-arena g c = ?
-
--- src/arena.rt:203:9
 pub climbing-smaller : goal.climbing-smaller
-climbing-smaller g c = ?
+climbing-smaller g c =
+    climb-smaller c.climbing.self.places.items c.in-Some.at _ (rw c.in-Some.is at c.climbing.invariant.here) c.climbing.invariant.arena.stored.linked.shaped c.remove-next.ensures.above
 
--- src/arena.rt:203:9
 pub climbing-preserved : goal.climbing-preserved
-climbing-preserved g c = ?
+climbing-preserved g c = record {
+  arena = c.remove-next.ensures.arena;
+  here = climb-here c.climbing.self.places.items c.remove-next.new.self.places.items c.in-Some.at c.remove-next.result (rw c.in-Some.is at c.climbing.invariant.here) c.remove-next.ensures.above;
+  shrank = shrank-trans g.T.Slot.start c.args.self.now c.climbing.self c.remove-next.new.self c.climbing.invariant.shrank c.remove-next.ensures.shrank;
+  tight = c.remove-next.ensures.tight (rw c.in-Some.is at c.climbing.invariant.tight);
+}
 
--- src/arena.rt:195:5
-pub returns-clause-tree : goal.returns-clause-tree
-returns-clause-tree g c = ?
-
--- src/arena.rt:195:5
-pub returns-clause-shrank : goal.returns-clause-shrank
-returns-clause-shrank g c = ?
+pub returns-then-stands-clause-tree : goal.returns-then-stands-clause-tree
+returns-then-stands-clause-tree g c = record {
+  linked = c.climbing.invariant.arena;
+  tight = tight-all g.T.Slot.is_initial c.climbing.self.places.items c.in-Some.at (rw c.in-Some.is at c.climbing.invariant.tight)
+    (ap (λ xs. stands_in g.T.Slot.is_initial (node_at xs c.in-Some.at)) (sym c.deref.ensures.value) ∙ sym c.stands.ensures ∙ c.if-stands.true);
+}

@@ -1,13 +1,18 @@
-use Rattle.std.proofs.Common.{◌≡◌, ◌≢◌, ℕ, ◌+◌, ◌-◌, ◌<◌, ◌≤◌, ◌^◌, ◌%◌, ◌∷◌, ◌++◌, true, false, IfSome, IfNone, IsSome, IfOk, OnOk, OnErr, Some, None, [], max, length, vec_len, vec_capacity, slice_index_or, slice_set, ◌*◌}
-use Rattle.std.specs.Option.{option_copied}
-use Rattle.sparse_regs.specs.Prefixes.{whole}
-use Rattle.sparse_regs.specs.Registers.{register_among, taken_count}
-use Rattle.sparse_regs.specs.Linked.{of, IsPrefix, shorter}
-use Rattle.sparse_regs.specs.Places.{IsArena, IsTree, IsTightBut, IsCounted, IsSpare, HasRoom, Grew, Shrank, node_at, prefix_from, child_from, leaf_from, stands_in, top_with_child, places_with_child, kept_from}
+-- All nodes have to stand but the one that is next, and each turn goes up by a digit.
+use Rattle.std.proofs.Common.{◌≡◌}
+use Rattle.std.specs.Prelude.{IfSome, IsSome}
+use Rattle.sparse_regs.specs.Linked.{of}
+use Rattle.sparse_regs.specs.Places.{IsArena, Shrank, IsTightBut, prefix_from, node_at}
+use Rattle.sparse_regs.proofs.Paths.{height}
 use Rattle.sparse_regs.proofs.arena.Arena.prune.Given as goal
 
 abbrev pub invariant-climbing : goal.invariant-climbing
-invariant-climbing g l = ?
+invariant-climbing g l = record {
+  arena : IsArena l.self;
+  here : IfSome l.next (λ at. IsSome (node_at l.self.places.items at));
+  shrank : Shrank g.T.Slot.start l.fn.self l.self;
+  tight : IsTightBut g.T.Slot.is_initial l.next l.self.places.items;
+}
 
 abbrev pub decreases-climbing : goal.decreases-climbing
-decreases-climbing g l = ?
+decreases-climbing g l = height (of (prefix_from l.self.places.items) l.next)

@@ -1,0 +1,183 @@
+-- A leaf whose register changes, and what the registers and indices that are seen from outside make of all changes.
+use Rattle.std.proofs.Common.{◌≡◌, ◌≢◌, ℕ, ◌+◌, ◌-◌, ◌<◌, ◌≤◌, inl, inr, refl, ap, sym, ◌∙◌, subst, arith, List, [], ◌∷◌, length, map, Bool, true, false}
+use Rattle.std.specs.Prelude.{◌⊎◌, ◌||◌, ◌==◌, ◌&&◌, nat_lt, max, not, Option, None, Some, IfSome, IsSome, IsTrue, slice_index_or, slice_set, position, if◌then◌else◌}
+use Rattle.std.specs.Option.{is_some}
+use Rattle.std.proofs.Math.Path.{fun_ext}
+use Rattle.std.proofs.lemmas.Bool.{cases_eq, eqb-true, and_parts, false≢true, lt-ltb}
+use Rattle.std.proofs.lemmas.List.{length-set, length-map}
+use Rattle.std.proofs.lemmas.List.Quantifiers.{position-Some}
+use Rattle.std.proofs.Math.ListN.{get_or-map}
+use Rattle.sparse_regs.specs.declared.prefix.Prefix.{Prefix}
+use Rattle.sparse_regs.specs.declared.node.Register.{Register}
+use Rattle.sparse_regs.specs.declared.node.Node.{Node}
+use Rattle.sparse_regs.specs.declared.node.Content.{Content}
+use Rattle.sparse_regs.specs.declared.node.Content.TheVariants.{Index, Leaf}
+use Rattle.sparse_regs.specs.Prefixes.{whole, same_prefix}
+use Rattle.sparse_regs.specs.Registers.{Numbered, register_among, register_at, initial_register, is_kept, updated, taken_count, index_of, is_place_of, KeepsIndices, with_holder}
+use Rattle.sparse_regs.specs.Linked.{of, IsLinked}
+use Rattle.sparse_regs.specs.Places.{node_at, prefix_in, parent_in, child_in, child_in_content, leaf_in, leaf_in_content, prefix_from, parent_from, child_from, with_leaf, content_with_leaf, IsFormed, IsFormedContent, IsStored, IsCounted, stands_in, stands_content, IsTightBut, kept_in, kept_in_content, kept_from, registers_of}
+use Rattle.sparse_regs.proofs.PrefixLemmas.{prefix_ext}
+use Rattle.sparse_regs.proofs.Placing.{at-same, at-other, at-within}
+use Rattle.sparse_regs.proofs.Counting.{count-same, count-le, leaf-changed, leaf-register, leaf-alone, leaf-absent, among-none, prefix-leaf}
+
+-- ---- a place with a changed leaf
+
+same_by : {T A : Type 0} (g : Option (Node T) → A) (f : Register T → Register T) → ((x : Option (Node T)) → g (with_leaf f x) ≡ g x)
+    → (places : List (Option (Node T))) (at k : ℕ) → at < length places → g (node_at (slice_set places at (with_leaf f (node_at places at))) k) ≡ g (node_at places k)
+same_by g f keeps places at k within = elim (cases_eq k at) [
+  inl e ↦ ap (λ j. g (node_at (slice_set places at (with_leaf f (node_at places at))) j)) e ∙ ap g (at-same places at (with_leaf f (node_at places at)) within) ∙ keeps (node_at places at) ∙ ap (λ j. g (node_at places j)) (sym e)
+  | inr ne ↦ ap g (at-other places at k (with_leaf f (node_at places at)) ne)
+]
+
+leaf-prefix_in : {T : Type 0} (f : Register T → Register T) (x : Option (Node T)) → prefix_in (with_leaf f x) ≡ prefix_in x
+leaf-prefix_in f None = refl
+leaf-prefix_in f (Some node) = refl
+
+leaf-parent_in : {T : Type 0} (f : Register T → Register T) (x : Option (Node T)) → parent_in (with_leaf f x) ≡ parent_in x
+leaf-parent_in f None = refl
+leaf-parent_in f (Some node) = refl
+
+leaf-is_some : {T : Type 0} (f : Register T → Register T) (x : Option (Node T)) → is_some (with_leaf f x) ≡ is_some x
+leaf-is_some f None = refl
+leaf-is_some f (Some node) = refl
+
+leaf-child_content : {T : Type 0} (f : Register T → Register T) (d : ℕ) (content : Content T) → child_in_content (content_with_leaf f content) d ≡ child_in_content content d
+leaf-child_content f d (Index children) = refl
+leaf-child_content f d (Leaf r) = refl
+
+leaf-child_in : {T : Type 0} (f : Register T → Register T) (d : ℕ) (x : Option (Node T)) → child_in (with_leaf f x) d ≡ child_in x d
+leaf-child_in f d None = refl
+leaf-child_in f d (Some node) = leaf-child_content f d node.content
+
+leaf-formed_content : {T : Type 0} (f : Register T → Register T) (digits : ℕ) (content : Content T) → IsFormedContent digits content → IsFormedContent digits (content_with_leaf f content)
+leaf-formed_content f digits (Index children) h = h
+leaf-formed_content f digits (Leaf r) h = h
+
+leaf-formed : {T : Type 0} (f : Register T → Register T) (x : Option (Node T)) → IsFormed x → IsFormed (with_leaf f x)
+leaf-formed f None h = h
+leaf-formed f (Some node) h = leaf-formed_content f node.prefix.digits node.content h
+
+pub changed-prefix : {T : Type 0} (f : Register T → Register T) (places : List (Option (Node T))) (at k : ℕ) → at < length places
+    → prefix_from (slice_set places at (with_leaf f (node_at places at))) k ≡ prefix_from places k
+changed-prefix f places at k within = same_by prefix_in f (leaf-prefix_in f) places at k within
+
+changed-child : {T : Type 0} (f : Register T → Register T) (top : List (Option ℕ)) (places : List (Option (Node T))) (at : ℕ) → at < length places → (j : Option ℕ) (d : ℕ)
+    → child_from top (slice_set places at (with_leaf f (node_at places at))) j d ≡ child_from top places j d
+changed-child f top places at within None d = refl
+changed-child f top places at within (Some k) d = same_by (λ x. child_in x d) f (leaf-child_in f d) places at k within
+
+none_stays : {T : Type 0} (f : Register T → Register T) (x : Option (Node T)) → is_some x ≡ false → x ≡ None
+none_stays f None e = refl
+none_stays f (Some node) e = cc
+
+pub changed-stored : {T : Type 0} (f : Register T → Register T) (top : List (Option ℕ)) (places : List (Option (Node T))) (free : List ℕ) (at : ℕ) → at < length places
+    → IsStored top places free → IsStored top (slice_set places at (with_leaf f (node_at places at))) free
+changed-stored {T} f top places free at within h =
+    let new : List (Option (Node T)) = slice_set places at (with_leaf f (node_at places at)) in
+    let pre : prefix_from new ≡ prefix_from places = fun_ext (λ k. changed-prefix f places at k within) in
+    let par : parent_from new ≡ parent_from places = fun_ext (λ k. same_by parent_in f (leaf-parent_in f) places at k within) in
+    let chi : child_from top new ≡ child_from top places = fun_ext (λ j. fun_ext (λ d. changed-child f top places at within j d)) in
+    let P : (ℕ → Option Prefix) → Type 0 = λ x. IsLinked x (parent_from new) (child_from top new) in
+    let Q : (ℕ → Option ℕ) → Type 0 = λ x. IsLinked (prefix_from places) x (child_from top new) in
+    let R : (Option ℕ → ℕ → Option ℕ) → Type 0 = λ x. IsLinked (prefix_from places) (parent_from places) x in
+    let count : taken_count new ≡ taken_count places = count-same places at (with_leaf f (node_at places at)) (leaf-is_some f (node_at places at)) in
+    let len : length new ≡ length places = length-set places at (with_leaf f (node_at places at)) in
+    record {
+      linked = subst P (sym pre) (subst Q (sym par) (subst R (sym chi) h.linked));
+      formed = λ i. elim (cases_eq i at) [
+        inl e ↦ subst IsFormed (sym (at-same places at (with_leaf f (node_at places at)) within) ∙ ap (node_at new) (sym e)) (leaf-formed f (node_at places at) (h.formed at))
+        | inr ne ↦ subst IsFormed (sym (at-other places at i (with_leaf f (node_at places at)) ne)) (h.formed i)
+      ];
+      sixteen = h.sixteen;
+      counted = record {
+        count = omega (arith, count, len, h.counted.count);
+        within = λ k less. omega (arith, len, h.counted.within k less);
+        empty = λ k less. none_stays f _ (same_by is_some f (leaf-is_some f) places at (slice_index_or free k 0) within ∙ ap is_some (h.counted.empty k less));
+        apart = h.counted.apart;
+        few = omega (arith, len, h.counted.few);
+      };
+    }
+
+-- ---- the register of a leaf
+
+leaf-kept_content : {T : Type 0} (f : Register T → Register T) (n : ℕ) (r : Register T) (content : Content T) → leaf_in_content content ≡ Some r
+    → kept_in_content n (content_with_leaf f content) ≡ record { number = n; register = f r } ∷ []
+leaf-kept_content f n r (Index children) e = cc
+leaf-kept_content f n r (Leaf q) e = let same : q ≡ r = cc in ap (λ x. let y : Numbered _ = record { number = n; register = f x } in y ∷ []) same
+
+leaf-kept : {T : Type 0} (f : Register T → Register T) (n : ℕ) (r : Register T) (x : Option (Node T)) → prefix_in x ≡ Some (whole n) → leaf_in x ≡ Some r
+    → kept_in (with_leaf f x) ≡ record { number = n; register = f r } ∷ []
+leaf-kept f n r None p e = cc
+leaf-kept f n r (Some node) p e =
+    let same : node.prefix ≡ whole n = cc in
+    let number : node.prefix.number ≡ n = ap (λ (q : Prefix). q.number) same in
+    ap (λ m. kept_in_content m (content_with_leaf f node.content)) number ∙ leaf-kept_content f n r node.content e
+
+-- at a register's leaf stands what is known of the register
+pub leaf-known : {T : Type 0} (start : T) (top : List (Option ℕ)) (places : List (Option (Node T))) (free : List ℕ) (at n : ℕ) → IsStored top places free → prefix_from places at ≡ Some (whole n)
+    → leaf_in (node_at places at) ≡ Some (register_among start (kept_from places) n)
+leaf-known start top places free at n h here =
+    let leaf = prefix-leaf n (node_at places at) (h.formed at) here in
+    leaf.2 ∙ ap Some (sym (leaf-register start n places at leaf.0 (leaf-alone n places at h.linked.one h.formed here) leaf.1))
+
+pub changed-registers : {T : Type 0} (start : T) (f : Register T → Register T) (top : List (Option ℕ)) (places : List (Option (Node T))) (free : List ℕ) (at n : ℕ) → IsStored top places free → prefix_from places at ≡ Some (whole n)
+    → (m : ℕ) → register_among start (kept_from (slice_set places at (with_leaf f (node_at places at)))) m ≡ updated n (f (register_among start (kept_from places) n)) (register_among start (kept_from places)) m
+changed-registers {T} start f top places free at n h here m =
+    let leaf = prefix-leaf n (node_at places at) (h.formed at) here in
+    let known : leaf.0 ≡ register_among start (kept_from places) n = sym (leaf-register start n places at leaf.0 (leaf-alone n places at h.linked.one h.formed here) leaf.1) in
+    leaf-changed start n places at (with_leaf f (node_at places at)) leaf.0 (f leaf.0) (at-within places at (whole n) here)
+      (leaf-alone n places at h.linked.one h.formed here) leaf.1 (leaf-kept f n leaf.0 (node_at places at) here leaf.2) m
+    ∙ ap (λ (r : Register T). updated n (f r) (register_among start (kept_from places)) m) known
+
+pub changed-tight : {T : Type 0} (is_initial : T → Bool) (f : Register T → Register T) (places : List (Option (Node T))) (at : ℕ) → IsTightBut is_initial (Some at) places
+    → IsTightBut is_initial (Some at) (slice_set places at (with_leaf f (node_at places at)))
+changed-tight is_initial f places at tight i ne =
+    ap (stands_in is_initial) (at-other places at i (with_leaf f (node_at places at)) (λ e. ne (ap Some e))) ∙ tight i ne
+
+leaf-stands_content : {T : Type 0} (is_initial : T → Bool) (f : Register T → Register T) (r : Register T) (content : Content T) → leaf_in_content content ≡ Some r
+    → stands_content is_initial (content_with_leaf f content) ≡ is_kept is_initial (f r)
+leaf-stands_content is_initial f r (Index children) e = cc
+leaf-stands_content is_initial f r (Leaf q) e = let same : q ≡ r = cc in ap (λ x. is_kept is_initial (f x)) same
+
+leaf-stands : {T : Type 0} (is_initial : T → Bool) (f : Register T → Register T) (r : Register T) (x : Option (Node T)) → leaf_in x ≡ Some r
+    → stands_in is_initial (with_leaf f x) ≡ is_kept is_initial (f r)
+leaf-stands is_initial f r None e = cc
+leaf-stands is_initial f r (Some node) e = leaf-stands_content is_initial f r node.content e
+
+-- whether the changed leaf has to stand is what its register says
+pub changed-stands : {T : Type 0} (is_initial : T → Bool) (f : Register T → Register T) (r : Register T) (places : List (Option (Node T))) (at : ℕ) → at < length places → leaf_in (node_at places at) ≡ Some r
+    → stands_in is_initial (node_at (slice_set places at (with_leaf f (node_at places at))) at) ≡ is_kept is_initial (f r)
+changed-stands is_initial f r places at within e =
+    ap (stands_in is_initial) (at-same places at (with_leaf f (node_at places at)) within) ∙ leaf-stands is_initial f r (node_at places at) e
+
+pub held-kept : {T : Type 0} (is_initial : T → Bool) (r : Register T) → 0 < r.holders → is_kept is_initial r ≡ true
+held-kept is_initial r h = ap (λ b. b || not (is_initial r.value)) (lt-ltb 0 r.holders h)
+
+-- a register that is kept has a leaf
+pub kept-leaf : {T : Type 0} (start : T) (is_initial : T → Bool) (top : List (Option ℕ)) (places : List (Option (Node T))) (free : List ℕ) (n : ℕ) → IsStored top places free
+    → is_initial start ≡ true → is_kept is_initial (register_among start (kept_from places) n) ≡ true → ((k : ℕ) → prefix_from places k ≡ Some (whole n) → ⊥) → ⊥
+kept-leaf start is_initial top places free n h initial kept absent =
+    let none : register_among start (kept_from places) n ≡ initial_register start = among-none start n places (leaf-absent n places h.formed absent) in
+    false≢true (sym (ap not initial) ∙ sym (ap (is_kept is_initial) none) ∙ kept)
+
+-- ---- as seen from outside
+
+pub nodes-seen : {T : Type 0} (places : List (Option (Node T))) → taken_count (map prefix_in places) ≡ taken_count places
+nodes-seen [] = refl
+nodes-seen (None ∷ places) = nodes-seen places
+nodes-seen (Some node ∷ places) = ap (λ n. n + 1) (nodes-seen places)
+
+place-prefix : (p : Prefix) (x : Option Prefix) → is_place_of p x ≡ true → x ≡ Some p
+place-prefix p None e = cc
+place-prefix p (Some q) e =
+    let parts = and_parts (p.digits == q.digits) (p.number == q.number) e in
+    ap Some (sym (prefix_ext p q (eqb-true p.digits q.digits parts.0) (eqb-true p.number q.number parts.1)))
+
+-- a prefix's index has a node with this prefix
+pub index-prefix : {T : Type 0} (places : List (Option (Node T))) (p : Prefix) (i : ℕ) → index_of (registers_of places) p ≡ Some i → prefix_from places i ≡ Some p
+index-prefix places p i e =
+    sym (get_or-map prefix_in places i None) ∙ place-prefix p _ (position-Some (is_place_of p) (map prefix_in places) i None e).1
+
+pub keeps-indices : {T : Type 0} (old new : List (Option (Node T))) → ((i j : ℕ) (p : Prefix) → prefix_from old i ≡ Some p → prefix_from new j ≡ Some p → j ≡ i)
+    → KeepsIndices (registers_of old) (registers_of new)
+keeps-indices old new same p i j e f = same i j p (index-prefix old p i e) (index-prefix new p j f)
