@@ -177,3 +177,9 @@ pub record Shrank {T : Type 0} (start : T) (old new : Arena T) : Type 0 where
   pub stays : (i : ℕ) (p : Prefix) → prefix_from new.places.items i ≡ Some p → prefix_from old.places.items i ≡ Some p
   pub registers : (m : ℕ) → register_among start (kept_from new.places.items) m ≡ register_among start (kept_from old.places.items) m
   pub slots : length new.places.items ≡ length old.places.items
+
+-- each place has the prefix that it had
+pub record SamePrefixes {T : Type 0} (old new : List (Option (Node T))) : Type 0 where
+  pub prefixes : (i : ℕ) → prefix_from new i ≡ prefix_from old i
+  pub slots : length new ≡ length old
+  pub count : taken_count new ≡ taken_count old

@@ -3,9 +3,9 @@
 ghost use Rattle.std.specs.Prelude.{◌≡◌, ◌≢◌, ℕ, ◌+◌, ◌-◌, ◌<◌, ◌≤◌, ◌^◌, ◌%◌, ◌∷◌, ◌++◌, true, false, IfSome, IfNone, IsSome, IfOk, OnOk, OnErr, Some, None, [], max, length, vec_len, vec_capacity, slice_index_or, slice_set};
 ghost use Rattle.std.specs.Option.{option_copied};
 ghost use Rattle.sparse_regs.specs.Prefixes.{whole};
-ghost use Rattle.sparse_regs.specs.Registers.{register_among, taken_count};
+ghost use Rattle.sparse_regs.specs.Registers.{register_among, register_at, updated, with_holder, without_holder, with_value, with_resized, is_kept, KeepsIndices, slots_of, nodes_of, taken_count};
 ghost use Rattle.sparse_regs.specs.Linked.{of, IsPrefix, shorter};
-ghost use Rattle.sparse_regs.specs.Places.{IsArena, IsTree, IsTightBut, IsCounted, IsSpare, HasRoom, Grew, Shrank, node_at, prefix_from, child_from, leaf_from, stands_in, top_with_child, places_with_child, kept_from};
+ghost use Rattle.sparse_regs.specs.Places.{IsArena, IsTree, IsTightBut, IsCounted, IsSpare, HasRoom, Grew, Shrank, node_at, prefix_from, child_from, leaf_from, stands_in, top_with_child, places_with_child, kept_from, registers_of, SamePrefixes};
 
 use crate::children::Children;
 use crate::node::Node;
@@ -202,6 +202,53 @@ impl<T: Slot> Arena<T> {
             }
             next = self.remove(at);
         }
+    }
+}
+
+impl<T: Slot> Arena<T> {
+    /// The leaf of a register that has one.
+    pub fn leaf(&self, number: u16) -> u32
+        requires tree { IsTree T.is_initial self.now }
+        requires kept { is_kept T.is_initial (register_among T.start (kept_from self.now.places.items) number) ≡ true }
+        ensures { prefix_from self.now.places.items result ≡ Some (whole number) }
+    {
+        match self.find(number) {
+            Some(leaf) => leaf,
+            None => unreachable!(),
+        }
+    }
+
+    /// One more holder for a register's leaf.
+    fn add_holder(&mut self, leaf: u32, number: u16)
+        requires arena { IsArena self.old }
+        requires here { prefix_from self.old.places.items leaf ≡ Some (whole number) }
+        requires tight { IsTightBut T.is_initial (Some leaf) self.old.places.items }
+        requires few { (register_at T.start (registers_of self.old.places.items) number).holders < 2 ^ 127 }
+        ensures tree { IsTree T.is_initial self.new }
+        ensures held { (m : ℕ) → register_at T.start (registers_of self.new.places.items) m
+            ≡ updated number (with_holder (register_at T.start (registers_of self.old.places.items) number)) (register_at T.start (registers_of self.old.places.items)) m }
+        ensures same { SamePrefixes self.old.places.items self.new.places.items }
+    {
+        places::add_holder(&mut self.places, leaf as usize);
+    }
+
+    /// One more holder for a register, whose leaf is made where there is none.
+    pub fn hold(&mut self, number: u16) -> Result<(), AllocError>
+        requires tree { IsTree T.is_initial self.old }
+        requires few { (register_at T.start (registers_of self.old.places.items) number).holders < 2 ^ 127 }
+        ensures tree { IsTree T.is_initial self.new }
+        ensures held { OnOk result ((m : ℕ) → register_at T.start (registers_of self.new.places.items) m
+            ≡ updated number (with_holder (register_at T.start (registers_of self.old.places.items) number)) (register_at T.start (registers_of self.old.places.items)) m) }
+        ensures indices { KeepsIndices (registers_of self.old.places.items) (registers_of self.new.places.items) }
+        ensures slots { OnOk result (slots_of (registers_of self.new.places.items) ≡ max (slots_of (registers_of self.old.places.items)) (nodes_of (registers_of self.new.places.items))) }
+        ensures err { OnErr result (self.new.places.items ≡ self.old.places.items) }
+    {
+        let leaf = match self.find(number) {
+            Some(leaf) => leaf,
+            None => self.grow(number)?,
+        };
+        self.add_holder(leaf, number);
+        Ok(())
     }
 }
 

@@ -69,10 +69,11 @@ pub fn leaf_at<T>(places: &[Option<Node<T>>], at: usize) -> Option<&Register<T>>
 }
 
 /// Gives the register at a place one more holder.
-pub fn add_holder<T>(places: &mut [Option<Node<T>>], at: usize)
-    requires leaf { IfSome (leaf_in (node_at places.old at)) (λ register. register.holders < 2 ^ 127) }
-    requires at { at < length places.old }
-    ensures { places.new ≡ slice_set places.old at (with_leaf with_holder (node_at places.old at)) }
+pub fn add_holder<T>(places: &mut Vec<Option<Node<T>>>, at: usize)
+    requires leaf { IfSome (leaf_in (node_at places.old.items at)) (λ register. register.holders < 2 ^ 127) }
+    requires at { at < length places.old.items }
+    ensures items { places.new.items ≡ slice_set places.old.items at (with_leaf with_holder (node_at places.old.items at)) }
+    ensures len { vec_len places.new ≡ vec_len places.old }
 {
     if let Some(node) = &mut places[at] {
         if let Content::Leaf(register) = &mut node.content {
@@ -82,10 +83,11 @@ pub fn add_holder<T>(places: &mut [Option<Node<T>>], at: usize)
 }
 
 /// Takes a holder from the register at a place.
-pub fn drop_holder<T>(places: &mut [Option<Node<T>>], at: usize)
-    requires leaf { IfSome (leaf_in (node_at places.old at)) (λ register. 0 < register.holders) }
-    requires at { at < length places.old }
-    ensures { places.new ≡ slice_set places.old at (with_leaf without_holder (node_at places.old at)) }
+pub fn drop_holder<T>(places: &mut Vec<Option<Node<T>>>, at: usize)
+    requires leaf { IfSome (leaf_in (node_at places.old.items at)) (λ register. 0 < register.holders) }
+    requires at { at < length places.old.items }
+    ensures items { places.new.items ≡ slice_set places.old.items at (with_leaf without_holder (node_at places.old.items at)) }
+    ensures len { vec_len places.new ≡ vec_len places.old }
 {
     if let Some(node) = &mut places[at] {
         if let Content::Leaf(register) = &mut node.content {
@@ -95,11 +97,12 @@ pub fn drop_holder<T>(places: &mut [Option<Node<T>>], at: usize)
 }
 
 /// Puts a value into the register at a place, and gives the old one.
-pub fn replace_value<T>(places: &mut [Option<Node<T>>], at: usize, value: T) -> T
-    requires leaf { IsSome (leaf_in (node_at places.old at)) }
-    requires at { at < length places.old }
-    ensures old { option_map (λ register. register.value) (leaf_in (node_at places.old at)) ≡ Some result }
-    ensures new { places.new ≡ slice_set places.old at (with_leaf (with_value value) (node_at places.old at)) }
+pub fn replace_value<T>(places: &mut Vec<Option<Node<T>>>, at: usize, value: T) -> T
+    requires leaf { IsSome (leaf_in (node_at places.old.items at)) }
+    requires at { at < length places.old.items }
+    ensures old { option_map (λ register. register.value) (leaf_in (node_at places.old.items at)) ≡ Some result }
+    ensures items { places.new.items ≡ slice_set places.old.items at (with_leaf (with_value value) (node_at places.old.items at)) }
+    ensures len { vec_len places.new ≡ vec_len places.old }
 {
     match &mut places[at] {
         Some(node) => match &mut node.content {
@@ -111,9 +114,10 @@ pub fn replace_value<T>(places: &mut [Option<Node<T>>], at: usize, value: T) -> 
 }
 
 /// Resizes the box of the register at a place.
-pub fn resize_value<T: Slot>(places: &mut [Option<Node<T>>], at: usize, part: u8, value: i32)
-    requires at { at < length places.old }
-    ensures { places.new ≡ slice_set places.old at (with_leaf (with_resized (T.resized part value)) (node_at places.old at)) }
+pub fn resize_value<T: Slot>(places: &mut Vec<Option<Node<T>>>, at: usize, part: u8, value: i32)
+    requires at { at < length places.old.items }
+    ensures items { places.new.items ≡ slice_set places.old.items at (with_leaf (with_resized (T.resized part value)) (node_at places.old.items at)) }
+    ensures len { vec_len places.new ≡ vec_len places.old }
 {
     if let Some(node) = &mut places[at] {
         if let Content::Leaf(register) = &mut node.content {

@@ -7,7 +7,7 @@ use Rattle.sparse_regs.proofs.arena.Arena.prune.Goals as goal
 
 pub climbing-smaller : goal.climbing-smaller
 climbing-smaller g c =
-    climb-smaller c.climbing.self.places.items c.in-Some.at _ (rw c.in-Some.is at c.climbing.invariant.here) c.climbing.invariant.arena.stored.linked.shaped c.remove-next.ensures.above
+    rw c.in-Some.is (climb-smaller c.climbing.self.places.items c.in-Some.at _ (rw c.in-Some.is at c.climbing.invariant.here) c.climbing.invariant.arena.stored.linked.shaped c.remove-next.ensures.above)
 
 pub climbing-preserved : goal.climbing-preserved
 climbing-preserved g c = record {
