@@ -3,7 +3,7 @@ use Rattle.std.proofs.Common.{◌≡◌, ◌≢◌, ℕ, ◌+◌, ◌-◌, ◌<�
 use Rattle.std.specs.Prelude.{◌⊎◌, ◌||◌, ◌==◌, ◌&&◌, nat_lt, max, not, Option, None, Some, IfSome, IsSome, IsTrue, slice_index_or, slice_set, position, if◌then◌else◌}
 use Rattle.std.specs.Option.{is_some}
 use Rattle.std.proofs.Math.Path.{fun_ext}
-use Rattle.std.proofs.lemmas.Bool.{cases_eq, eqb-true, and_parts, false≢true, lt-ltb}
+use Rattle.std.proofs.lemmas.Bool.{cases_eq, eq-eqb, eqb-true, and_parts, false≢true, lt-ltb}
 use Rattle.std.proofs.lemmas.List.{length-set, length-map}
 use Rattle.std.proofs.lemmas.List.Quantifiers.{position-Some}
 use Rattle.std.proofs.Math.ListN.{get_or-map}
@@ -12,10 +12,11 @@ use Rattle.sparse_regs.specs.declared.node.Register.{Register}
 use Rattle.sparse_regs.specs.declared.node.Node.{Node}
 use Rattle.sparse_regs.specs.declared.node.Content.{Content}
 use Rattle.sparse_regs.specs.declared.node.Content.TheVariants.{Index, Leaf}
+use Rattle.sparse_regs.specs.declared.arena.Arena.{Arena}
 use Rattle.sparse_regs.specs.Prefixes.{whole, same_prefix}
-use Rattle.sparse_regs.specs.Registers.{Numbered, register_among, register_at, initial_register, is_kept, updated, taken_count, index_of, is_place_of, KeepsIndices, with_holder}
+use Rattle.sparse_regs.specs.Registers.{Numbered, register_among, register_at, initial_register, is_kept, updated, taken_count, index_of, is_place_of, KeepsIndices, with_holder, with_resized}
 use Rattle.sparse_regs.specs.Linked.{of, IsLinked}
-use Rattle.sparse_regs.specs.Places.{node_at, prefix_in, parent_in, child_in, child_in_content, leaf_in, leaf_in_content, prefix_from, parent_from, child_from, with_leaf, content_with_leaf, IsFormed, IsFormedContent, IsStored, IsCounted, stands_in, stands_content, IsTightBut, kept_in, kept_in_content, kept_from, registers_of}
+use Rattle.sparse_regs.specs.Places.{node_at, prefix_in, parent_in, child_in, child_in_content, leaf_in, leaf_in_content, prefix_from, parent_from, child_from, with_leaf, content_with_leaf, IsFormed, IsFormedContent, IsStored, IsCounted, stands_in, stands_content, IsTightBut, kept_in, kept_in_content, kept_from, registers_of, SamePrefixes, Grew, Shrank}
 use Rattle.sparse_regs.proofs.PrefixLemmas.{prefix_ext}
 use Rattle.sparse_regs.proofs.Placing.{at-same, at-other, at-within}
 use Rattle.sparse_regs.proofs.Counting.{count-same, count-le, leaf-changed, leaf-register, leaf-alone, leaf-absent, among-none, prefix-leaf}
@@ -144,6 +145,10 @@ leaf-stands : {T : Type 0} (is_initial : T → Bool) (f : Register T → Registe
 leaf-stands is_initial f r None e = cc
 leaf-stands is_initial f r (Some node) e = leaf-stands_content is_initial f r node.content e
 
+leaf-stands_plain : {T : Type 0} (is_initial : T → Bool) (r : Register T) (content : Content T) → leaf_in_content content ≡ Some r → stands_content is_initial content ≡ is_kept is_initial r
+leaf-stands_plain is_initial r (Index children) e = cc
+leaf-stands_plain is_initial r (Leaf q) e = let same : q ≡ r = cc in ap (is_kept is_initial) same
+
 -- whether the changed leaf has to stand is what its register says
 pub changed-stands : {T : Type 0} (is_initial : T → Bool) (f : Register T → Register T) (r : Register T) (places : List (Option (Node T))) (at : ℕ) → at < length places → leaf_in (node_at places at) ≡ Some r
     → stands_in is_initial (node_at (slice_set places at (with_leaf f (node_at places at))) at) ≡ is_kept is_initial (f r)
@@ -181,3 +186,66 @@ index-prefix places p i e =
 pub keeps-indices : {T : Type 0} (old new : List (Option (Node T))) → ((i j : ℕ) (p : Prefix) → prefix_from old i ≡ Some p → prefix_from new j ≡ Some p → j ≡ i)
     → KeepsIndices (registers_of old) (registers_of new)
 keeps-indices old new same p i j e f = same i j p (index-prefix old p i e) (index-prefix new p j f)
+
+pub updated-alike : {T : Type 0} (n : ℕ) (f : Register T → Register T) (old mid : ℕ → Register T) → ((m : ℕ) → mid m ≡ old m) → (m : ℕ) → updated n (f (mid n)) mid m ≡ updated n (f (old n)) old m
+updated-alike n f old mid same m = ap (λ r. updated n (f r) mid m) (same n) ∙ ap (λ r. if m == n then f (old n) else r) (same m)
+
+pub slots-seen : {T : Type 0} (places : List (Option (Node T))) → length (map prefix_in places) ≡ length places
+slots-seen [] = refl
+slots-seen (x ∷ places) = omega (arith, slots-seen places)
+
+pub changed-same : {T : Type 0} (f : Register T → Register T) (old new : List (Option (Node T))) (at : ℕ) → at < length old → new ≡ slice_set old at (with_leaf f (node_at old at)) → SamePrefixes old new
+changed-same f old new at within e = record {
+  prefixes = λ i. ap (λ xs. prefix_from xs i) e ∙ changed-prefix f old at i within;
+  slots = ap length e ∙ length-set old at (with_leaf f (node_at old at));
+  count = ap taken_count e ∙ count-same old at (with_leaf f (node_at old at)) (leaf-is_some f (node_at old at));
+}
+
+-- indices stay where nodes are made before a leaf changes
+pub grew-indices : {T : Type 0} (start : T) (old mid : Arena T) (new : List (Option (Node T))) (par : ℕ → Option ℕ) (chi : Option ℕ → ℕ → Option ℕ) → IsLinked (prefix_from new) par chi
+    → Grew start old mid → SamePrefixes mid.places.items new → KeepsIndices (registers_of old.places.items) (registers_of new)
+grew-indices start old mid new par chi linked grew same =
+    keeps-indices old.places.items new (λ i j p e f. linked.one j i p f (same.prefixes i ∙ grew.stays i p e))
+
+-- and where nodes go after it did
+pub shrank-indices : {T : Type 0} (start : T) (old : List (Option (Node T))) (mid new : Arena T) (par : ℕ → Option ℕ) (chi : Option ℕ → ℕ → Option ℕ) → IsLinked (prefix_from old) par chi
+    → SamePrefixes old mid.places.items → Shrank start mid new → KeepsIndices (registers_of old) (registers_of new.places.items)
+shrank-indices start old mid new par chi linked same shrank =
+    keeps-indices old new.places.items (λ i j p e f. linked.one j i p (sym (same.prefixes j) ∙ shrank.stays j p f) e)
+
+pub grew-slots : {T : Type 0} (start : T) (old mid : Arena T) (new : List (Option (Node T))) → Grew start old mid → SamePrefixes mid.places.items new
+    → length (map prefix_in new) ≡ max (length (map prefix_in old.places.items)) (taken_count (map prefix_in new))
+grew-slots start old mid new grew same = omega (arith, slots-seen new, slots-seen old.places.items, nodes-seen new, same.slots, same.count, grew.slots)
+
+pub shrank-slots : {T : Type 0} (start : T) (old : List (Option (Node T))) (mid new : Arena T) → SamePrefixes old mid.places.items → Shrank start mid new
+    → length (map prefix_in new.places.items) ≡ max (length (map prefix_in old)) (taken_count (map prefix_in new.places.items))
+shrank-slots start old mid new same shrank = omega (arith, slots-seen new.places.items, slots-seen old, nodes-seen new.places.items, same.slots, shrank.slots, count-le new.places.items)
+
+pub resized-stands : {T : Type 0} (is_initial : T → Bool) (g : T → T) (r : Register T) → is_initial (g r.value) ≡ is_initial r.value → is_kept is_initial (record { value = g r.value; holders = r.holders }) ≡ is_kept is_initial r
+resized-stands is_initial g r e = ap (λ b. nat_lt 0 r.holders || not b) e
+
+pub tight-but : {T : Type 0} (is_initial : T → Bool) (places : List (Option (Node T))) (at : ℕ) → IsTightBut is_initial None places → IsTightBut is_initial (Some at) places
+tight-but is_initial places at tight i ne = tight i (λ e. cc)
+
+pub option_value : {A : Type 0} {x y : A} → Some x ≡ Some y → x ≡ y
+option_value {A} {x} {y} e = cc
+
+-- a register's leaf has to stand where the register says so
+pub known-stands : {T : Type 0} (start : T) (is_initial : T → Bool) (top : List (Option ℕ)) (places : List (Option (Node T))) (free : List ℕ) (at n : ℕ) → IsStored top places free → prefix_from places at ≡ Some (whole n)
+    → stands_in is_initial (node_at places at) ≡ is_kept is_initial (register_among start (kept_from places) n)
+known-stands {T} start is_initial top places free at n h here = by_leaf (node_at places at) (register_among start (kept_from places) n) (leaf-known start top places free at n h here)
+  where
+    by_leaf : (x : Option (Node T)) (r : Register T) → leaf_in x ≡ Some r → stands_in is_initial x ≡ is_kept is_initial r
+    by_leaf None r e = cc
+    by_leaf (Some node) r e = leaf-stands_plain is_initial r node.content e
+
+updated-here : {T : Type 0} (n : ℕ) (r : Register T) (all : ℕ → Register T) → updated n r all n ≡ r
+updated-here n r all = ap (λ b. if b then r else all n) (eq-eqb n n refl)
+
+pub held-stands : {T : Type 0} (is_initial : T → Bool) (n : ℕ) (q r : Register T) (all : ℕ → Register T) → r ≡ updated n (with_holder q) all n → is_kept is_initial r ≡ true
+held-stands is_initial n q r all e = ap (is_kept is_initial) (e ∙ updated-here n (with_holder q) all) ∙ held-kept is_initial (with_holder q) (omega arith)
+
+pub resized-stands-too : {T : Type 0} (is_initial : T → Bool) (n : ℕ) (g : T → T) (q r : Register T) (all : ℕ → Register T) → r ≡ updated n (with_resized g q) all n
+    → is_initial (g q.value) ≡ is_initial q.value → is_kept is_initial q ≡ true → is_kept is_initial r ≡ true
+resized-stands-too is_initial n g q r all e initial kept =
+    ap (is_kept is_initial) (e ∙ updated-here n (with_resized g q) all) ∙ resized-stands is_initial g q initial ∙ kept

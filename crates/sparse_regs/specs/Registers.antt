@@ -98,3 +98,11 @@ KeepsIndices old new = (p : Prefix) (i j : ℕ) → index_of old p ≡ Some i �
 abbrev pub ListsKept : {T : Type 0} → T → (T → Bool) → List ℕ → Registers T → Type 0
 ListsKept start is_initial numbers s =
     (n : ℕ) → list_any (λ m. m == n) numbers ≡ is_kept is_initial (register_at start s n)
+
+-- the numbers that a tree keeps
+abbrev pub numbers_among : {T : Type 0} → List (Numbered T) → List ℕ
+numbers_among [] = []
+numbers_among (r ∷ rs) = r.number ∷ numbers_among rs
+
+abbrev pub numbers_of : {T : Type 0} → Registers T → List ℕ
+numbers_of s = numbers_among s.kept

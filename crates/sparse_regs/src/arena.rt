@@ -161,6 +161,7 @@ impl<T: Slot> Arena<T> {
         ensures here { IfOk result (λ at. prefix_from self.new.places.items at ≡ Some (whole number)) }
         ensures grew { OnOk result (Grew T.start self.old self.new) }
         ensures tight { IfOk result (λ at. IsTightBut T.is_initial (Some at) self.new.places.items) }
+        ensures tree { OnErr result (IsTree T.is_initial self.new) }
         ensures err { OnErr result (self.new.places.items ≡ self.old.places.items) }
     {
         self.reserve()?;
@@ -224,12 +225,59 @@ impl<T: Slot> Arena<T> {
         requires here { prefix_from self.old.places.items leaf ≡ Some (whole number) }
         requires tight { IsTightBut T.is_initial (Some leaf) self.old.places.items }
         requires few { (register_at T.start (registers_of self.old.places.items) number).holders < 2 ^ 127 }
-        ensures tree { IsTree T.is_initial self.new }
-        ensures held { (m : ℕ) → register_at T.start (registers_of self.new.places.items) m
+        ensures arena { IsArena self.new }
+        ensures changed { (m : ℕ) → register_at T.start (registers_of self.new.places.items) m
             ≡ updated number (with_holder (register_at T.start (registers_of self.old.places.items) number)) (register_at T.start (registers_of self.old.places.items)) m }
         ensures same { SamePrefixes self.old.places.items self.new.places.items }
+        ensures tight { IsTightBut T.is_initial (Some leaf) self.new.places.items }
     {
         places::add_holder(&mut self.places, leaf as usize);
+    }
+
+    /// One holder fewer for a register's leaf.
+    fn drop_holder(&mut self, leaf: u32, number: u16)
+        requires arena { IsArena self.old }
+        requires here { prefix_from self.old.places.items leaf ≡ Some (whole number) }
+        requires tight { IsTightBut T.is_initial (Some leaf) self.old.places.items }
+        requires held { 0 < (register_at T.start (registers_of self.old.places.items) number).holders }
+        ensures arena { IsArena self.new }
+        ensures changed { (m : ℕ) → register_at T.start (registers_of self.new.places.items) m
+            ≡ updated number (without_holder (register_at T.start (registers_of self.old.places.items) number)) (register_at T.start (registers_of self.old.places.items)) m }
+        ensures same { SamePrefixes self.old.places.items self.new.places.items }
+        ensures tight { IsTightBut T.is_initial (Some leaf) self.new.places.items }
+    {
+        places::drop_holder(&mut self.places, leaf as usize);
+    }
+
+    /// Another value for a register's leaf. It gives the old one.
+    fn replace_value(&mut self, leaf: u32, number: u16, value: T) -> T
+        requires arena { IsArena self.old }
+        requires here { prefix_from self.old.places.items leaf ≡ Some (whole number) }
+        requires tight { IsTightBut T.is_initial (Some leaf) self.old.places.items }
+        ensures arena { IsArena self.new }
+        ensures changed { (m : ℕ) → register_at T.start (registers_of self.new.places.items) m
+            ≡ updated number (with_value value (register_at T.start (registers_of self.old.places.items) number)) (register_at T.start (registers_of self.old.places.items)) m }
+        ensures same { SamePrefixes self.old.places.items self.new.places.items }
+        ensures tight { IsTightBut T.is_initial (Some leaf) self.new.places.items }
+        ensures old { result ≡ (register_at T.start (registers_of self.old.places.items) number).value }
+    {
+        places::replace_value(&mut self.places, leaf as usize, value)
+    }
+
+    /// The leaf of a register, which is made where there is none.
+    fn leaf_or_new(&mut self, number: u16) -> Result<u32, AllocError>
+        requires { IsTree T.is_initial self.old }
+        ensures arena { IsArena self.new }
+        ensures here { IfOk result (λ at. prefix_from self.new.places.items at ≡ Some (whole number)) }
+        ensures grew { OnOk result (Grew T.start self.old self.new) }
+        ensures tight { IfOk result (λ at. IsTightBut T.is_initial (Some at) self.new.places.items) }
+        ensures tree { OnErr result (IsTree T.is_initial self.new) }
+        ensures err { OnErr result (self.new.places.items ≡ self.old.places.items) }
+    {
+        match self.find(number) {
+            Some(leaf) => Ok(leaf),
+            None => self.grow(number),
+        }
     }
 
     /// One more holder for a register, whose leaf is made where there is none.
@@ -237,18 +285,63 @@ impl<T: Slot> Arena<T> {
         requires tree { IsTree T.is_initial self.old }
         requires few { (register_at T.start (registers_of self.old.places.items) number).holders < 2 ^ 127 }
         ensures tree { IsTree T.is_initial self.new }
-        ensures held { OnOk result ((m : ℕ) → register_at T.start (registers_of self.new.places.items) m
+        ensures changed { OnOk result ((m : ℕ) → register_at T.start (registers_of self.new.places.items) m
             ≡ updated number (with_holder (register_at T.start (registers_of self.old.places.items) number)) (register_at T.start (registers_of self.old.places.items)) m) }
         ensures indices { KeepsIndices (registers_of self.old.places.items) (registers_of self.new.places.items) }
         ensures slots { OnOk result (slots_of (registers_of self.new.places.items) ≡ max (slots_of (registers_of self.old.places.items)) (nodes_of (registers_of self.new.places.items))) }
         ensures err { OnErr result (self.new.places.items ≡ self.old.places.items) }
     {
-        let leaf = match self.find(number) {
-            Some(leaf) => leaf,
-            None => self.grow(number)?,
-        };
+        let leaf = self.leaf_or_new(number)?;
         self.add_holder(leaf, number);
         Ok(())
+    }
+
+    /// One holder fewer for a register, whose leaf goes where it need not stand.
+    pub fn release(&mut self, number: u16)
+        requires tree { IsTree T.is_initial self.old }
+        requires held { 0 < (register_at T.start (registers_of self.old.places.items) number).holders }
+        ensures tree { IsTree T.is_initial self.new }
+        ensures changed { (m : ℕ) → register_at T.start (registers_of self.new.places.items) m
+            ≡ updated number (without_holder (register_at T.start (registers_of self.old.places.items) number)) (register_at T.start (registers_of self.old.places.items)) m }
+        ensures indices { KeepsIndices (registers_of self.old.places.items) (registers_of self.new.places.items) }
+        ensures slots { slots_of (registers_of self.new.places.items) ≡ max (slots_of (registers_of self.old.places.items)) (nodes_of (registers_of self.new.places.items)) }
+    {
+        let leaf = self.leaf(number);
+        self.drop_holder(leaf, number);
+        self.prune(leaf);
+    }
+
+    /// Another value for a register, whose leaf goes where it need not stand. It gives the old value.
+    pub fn replace(&mut self, number: u16, value: T) -> T
+        requires tree { IsTree T.is_initial self.old }
+        requires kept { is_kept T.is_initial (register_at T.start (registers_of self.old.places.items) number) ≡ true }
+        ensures tree { IsTree T.is_initial self.new }
+        ensures changed { (m : ℕ) → register_at T.start (registers_of self.new.places.items) m
+            ≡ updated number (with_value value (register_at T.start (registers_of self.old.places.items) number)) (register_at T.start (registers_of self.old.places.items)) m }
+        ensures indices { KeepsIndices (registers_of self.old.places.items) (registers_of self.new.places.items) }
+        ensures slots { slots_of (registers_of self.new.places.items) ≡ max (slots_of (registers_of self.old.places.items)) (nodes_of (registers_of self.new.places.items)) }
+        ensures old { result ≡ (register_at T.start (registers_of self.old.places.items) number).value }
+    {
+        let leaf = self.leaf(number);
+        let old = self.replace_value(leaf, number, value);
+        self.prune(leaf);
+        old
+    }
+
+    /// How many nodes stand.
+    pub fn nodes(&self) -> u32
+        requires { IsArena self.now }
+        ensures { result ≡ nodes_of (registers_of self.now.places.items) }
+    {
+        (self.places.len() - self.free.len()) as u32
+    }
+
+    /// How many places there are.
+    pub fn slots(&self) -> u32
+        requires { IsArena self.now }
+        ensures { result ≡ slots_of (registers_of self.now.places.items) }
+    {
+        self.places.len() as u32
     }
 }
 

@@ -1,7 +1,94 @@
-//! t
-use crate::arena::Arena;
+//! Trees of registers by hexadecimal digits.
+ghost use Rattle.std.specs.Prelude.{◌≡◌, ℕ, ℤ, ◌+◌, ◌<◌, ◌^◌, max, true, Option, None, Some, IfSome, IsSome, IsSomeAnd, OnOk, OnErr};
+ghost use Rattle.std.specs.Option.{option_copied, option_map, option_and_then};
+ghost use Rattle.sparse_regs.specs.Prefixes.{longer, whole, node_count};
+ghost use Rattle.sparse_regs.specs.Registers.{untouched, register_at, updated, with_holder, without_holder, with_value, with_resized, is_kept, value_if_kept, prefix_of, prefix_at, index_of, KeepsIndices, ListsKept, slots_of, nodes_of, numbers_of};
 
+use crate::arena::Arena;
+use crate::slot::Slot;
+use std::alloc::{AllocError, Global};
+use std::marker::Model;
+use std::sync::ledger::Ledger;
+use steps::Steps;
+
+/// A total map from register numbers, 256 to 32767, to values with holders. Contracts see the registers that aren't
+/// initial or are held, and the prefix whose node has each index.
 #[derive(Drop)]
-pub struct Tree<T> {
+pub struct Tree<T: Slot> {
     arena: Arena<T>,
+}
+
+impl<T: Slot> Model for Tree<T> {
+    ghost use Rattle.sparse_regs.specs.Registers.{Registers};
+
+    ghost Value = { Registers T };
+
+    ghost use Rattle.sparse_regs.specs.Places.{registers_of, IsTree};
+
+    ghost view = { λ t. registers_of t.arena.places.items };
+
+    ghost invariant = { λ t. IsTree T.is_initial t.arena };
+}
+
+impl<T: Slot> Tree<T> {
+    /// No register is held, and each has the value of the start.
+    pub fn new(alloc: Global) -> Tree<T>
+        ensures { result ≡ untouched }
+    {
+        Tree {
+            arena: Arena::new(alloc),
+        }
+    }
+
+    /// One more holder for a register. It makes the register's leaf where there is none.
+    pub fn hold<L: Ledger>(&mut self, n: u16, steps: &mut Steps<L>) -> Result<(), AllocError>
+        requires few { (register_at T.start self.old n).holders < 2 ^ 127 }
+        ensures held { OnOk result ((m : ℕ) → register_at T.start self.new m ≡ updated n (with_holder (register_at T.start self.old n)) (register_at T.start self.old) m) }
+        ensures indices { OnOk result (KeepsIndices self.old self.new) }
+        ensures slots { OnOk result (slots_of self.new ≡ max (slots_of self.old) (nodes_of self.new)) }
+        ensures err { OnErr result (self.new ≡ self.old) }
+        ensures steps { steps.new ≡ steps.old + 1 }
+    {
+        steps.tick();
+        self.arena.hold(n)
+    }
+
+    /// Puts a value into a register that has a leaf, and gives the old one. It takes no memory.
+    pub fn replace<L: Ledger>(&mut self, n: u16, value: T, steps: &mut Steps<L>) -> T
+        requires leaf { is_kept T.is_initial (register_at T.start self.old n) ≡ true }
+        ensures old { result ≡ (register_at T.start self.old n).value }
+        ensures replaced { (m : ℕ) → register_at T.start self.new m ≡ updated n (with_value value (register_at T.start self.old n)) (register_at T.start self.old) m }
+        ensures indices { KeepsIndices self.old self.new }
+        ensures slots { slots_of self.new ≡ max (slots_of self.old) (nodes_of self.new) }
+        ensures steps { steps.new ≡ steps.old + 1 }
+    {
+        steps.tick();
+        self.arena.replace(n, value)
+    }
+
+    /// One holder fewer for a register. It takes no memory.
+    pub fn release<L: Ledger>(&mut self, n: u16, steps: &mut Steps<L>)
+        requires held { 0 < (register_at T.start self.old n).holders }
+        ensures released { (m : ℕ) → register_at T.start self.new m ≡ updated n (without_holder (register_at T.start self.old n)) (register_at T.start self.old) m }
+        ensures indices { KeepsIndices self.old self.new }
+        ensures slots { slots_of self.new ≡ max (slots_of self.old) (nodes_of self.new) }
+        ensures steps { steps.new ≡ steps.old + 1 }
+    {
+        steps.tick();
+        self.arena.release(n);
+    }
+
+    /// How many nodes stand. It takes no memory.
+    pub fn nodes(&self) -> u32
+        ensures { result ≡ nodes_of self.now }
+    {
+        self.arena.nodes()
+    }
+
+    /// The highest number of nodes after any call so far. It takes no memory.
+    pub fn slots(&self) -> u32
+        ensures { result ≡ slots_of self.now }
+    {
+        self.arena.slots()
+    }
 }

@@ -1,0 +1,32 @@
+-- The register of one leaf changes, and all else stays.
+use Rattle.std.proofs.Common.{◌≡◌, ◌<◌, ◌^◌, ℕ, ap, sym, ◌∙◌, subst, arith, List, refl}
+use Rattle.std.specs.Prelude.{Option, Some, None, IfSome, IsSome, slice_set}
+use Rattle.sparse_regs.specs.declared.node.Register.{Register}
+use Rattle.sparse_regs.specs.declared.node.Node.{Node}
+use Rattle.sparse_regs.specs.Prefixes.{whole}
+use Rattle.sparse_regs.specs.Registers.{register_among, with_holder, without_holder, with_value, with_resized}
+use Rattle.sparse_regs.specs.Places.{leaf_in, node_at, kept_from, IsStored, IsTightBut}
+use Rattle.sparse_regs.proofs.Placing.{at-within}
+use Rattle.sparse_regs.proofs.Changing.{leaf-known, changed-stored, changed-registers, changed-tight, changed-same}
+use Rattle.sparse_regs.proofs.arena.Arena.drop_holder.Goals as goal
+
+pub drop_holder-requires-clause-leaf : goal.drop_holder-requires-clause-leaf
+drop_holder-requires-clause-leaf g c =
+    let P : Option (Register _) → Type 0 = λ x. IfSome x (λ register. 0 < register.holders) in
+    subst P (sym (leaf-known g.T.Slot.start c.args.self.now.top c.args.self.now.places.items c.args.self.now.free.items c.args.leaf c.args.number c.requires.arena.stored c.requires.here)) c.requires.held
+
+pub returns-clause-arena : goal.returns-clause-arena
+returns-clause-arena g c = record {
+  stored = rw c.drop_holder.ensures.items (changed-stored without_holder c.args.self.now.top c.args.self.now.places.items c.args.self.now.free.items c.args.leaf (at-within c.args.self.now.places.items c.args.leaf (whole c.args.number) c.requires.here) c.requires.arena.stored);
+  room = omega (arith, c.drop_holder.ensures.len, c.requires.arena.room);
+}
+
+pub returns-clause-changed : goal.returns-clause-changed
+returns-clause-changed g c m =
+    rw c.drop_holder.ensures.items (changed-registers g.T.Slot.start without_holder c.args.self.now.top c.args.self.now.places.items c.args.self.now.free.items c.args.leaf c.args.number c.requires.arena.stored c.requires.here m)
+
+pub returns-clause-same : goal.returns-clause-same
+returns-clause-same g c = changed-same without_holder c.args.self.now.places.items c.drop_holder.new.places.items c.args.leaf (at-within c.args.self.now.places.items c.args.leaf (whole c.args.number) c.requires.here) c.drop_holder.ensures.items
+
+pub returns-clause-tight : goal.returns-clause-tight
+returns-clause-tight g c = rw c.drop_holder.ensures.items (changed-tight g.T.Slot.is_initial without_holder c.args.self.now.places.items c.args.leaf c.requires.tight)
