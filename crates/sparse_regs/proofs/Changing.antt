@@ -1,7 +1,7 @@
 -- A leaf whose register changes, and what the registers and indices that are seen from outside make of all changes.
 use Rattle.std.proofs.Common.{◌≡◌, ◌≢◌, ℕ, ◌+◌, ◌-◌, ◌<◌, ◌≤◌, inl, inr, refl, ap, sym, ◌∙◌, subst, arith, List, [], ◌∷◌, length, map, Bool, true, false}
-use Rattle.std.specs.Prelude.{◌⊎◌, ◌||◌, ◌==◌, ◌&&◌, nat_lt, max, not, Option, None, Some, IfSome, IsSome, IsTrue, slice_index_or, slice_set, position, if◌then◌else◌}
-use Rattle.std.specs.Option.{is_some}
+use Rattle.std.specs.Prelude.{◌⊎◌, ◌||◌, ◌==◌, ◌&&◌, nat_lt, max, not, Option, None, Some, IfSome, IfNone, IsSome, IsTrue, slice_index_or, slice_set, position, if◌then◌else◌}
+use Rattle.std.specs.Option.{is_some, option_map, option_map_or}
 use Rattle.std.proofs.Math.Path.{fun_ext}
 use Rattle.std.proofs.lemmas.Bool.{cases_eq, eq-eqb, eqb-true, and_parts, false≢true, lt-ltb}
 use Rattle.std.proofs.lemmas.List.{length-set, length-map}
@@ -13,8 +13,8 @@ use Rattle.sparse_regs.specs.declared.node.Node.{Node}
 use Rattle.sparse_regs.specs.declared.node.Content.{Content}
 use Rattle.sparse_regs.specs.declared.node.Content.TheVariants.{Index, Leaf}
 use Rattle.sparse_regs.specs.declared.arena.Arena.{Arena}
-use Rattle.sparse_regs.specs.Prefixes.{whole, same_prefix}
-use Rattle.sparse_regs.specs.Registers.{Numbered, register_among, register_at, initial_register, is_kept, updated, taken_count, index_of, is_place_of, KeepsIndices, with_holder, with_resized}
+use Rattle.sparse_regs.specs.Prefixes.{longer, whole, same_prefix}
+use Rattle.sparse_regs.specs.Registers.{Numbered, register_among, register_at, initial_register, is_kept, value_if_kept, prefix_at, prefix_of, updated, taken_count, index_of, is_place_of, KeepsIndices, with_holder, with_resized}
 use Rattle.sparse_regs.specs.Linked.{of, IsLinked}
 use Rattle.sparse_regs.specs.Places.{node_at, prefix_in, parent_in, child_in, child_in_content, leaf_in, leaf_in_content, prefix_from, parent_from, child_from, with_leaf, content_with_leaf, IsFormed, IsFormedContent, IsStored, IsCounted, stands_in, stands_content, IsTightBut, kept_in, kept_in_content, kept_from, registers_of, SamePrefixes, Grew, Shrank}
 use Rattle.sparse_regs.proofs.PrefixLemmas.{prefix_ext}
@@ -249,3 +249,61 @@ pub resized-stands-too : {T : Type 0} (is_initial : T → Bool) (n : ℕ) (g : T
     → is_initial (g q.value) ≡ is_initial q.value → is_kept is_initial q ≡ true → is_kept is_initial r ≡ true
 resized-stands-too is_initial n g q r all e initial kept =
     ap (is_kept is_initial) (e ∙ updated-here n (with_resized g q) all) ∙ resized-stands is_initial g q initial ∙ kept
+
+-- what is read of a register by its leaf, and of one without
+pub value-found : {T : Type 0} (start : T) (is_initial : T → Bool) (top : List (Option ℕ)) (places : List (Option (Node T))) (free : List ℕ) (at n : ℕ) → IsStored top places free → prefix_from places at ≡ Some (whole n)
+    → IsTightBut is_initial None places → option_map (λ (r : Register T). r.value) (leaf_in (node_at places at)) ≡ value_if_kept is_initial (register_among start (kept_from places) n)
+value-found {T} start is_initial top places free at n h here tight =
+    let kept : is_kept is_initial (register_among start (kept_from places) n) ≡ true =
+        sym (known-stands start is_initial top places free at n h here) ∙ tight at (λ e. cc) in
+    ap (option_map (λ (r : Register T). r.value)) (leaf-known start top places free at n h here)
+    ∙ sym (ap (λ b. if b then Some (register_among start (kept_from places) n).value else None) kept)
+
+pub value-missing : {T : Type 0} (start : T) (is_initial : T → Bool) (top : List (Option ℕ)) (places : List (Option (Node T))) (free : List ℕ) (n : ℕ) → IsStored top places free → is_initial start ≡ true
+    → ((k : ℕ) → prefix_from places k ≡ Some (whole n) → ⊥) → None ≡ value_if_kept is_initial (register_among start (kept_from places) n)
+value-missing start is_initial top places free n h initial absent =
+    sym (ap (value_if_kept is_initial) (among-none start n places (leaf-absent n places h.formed absent))
+      ∙ ap (λ b. if not b then Some start else None) initial)
+
+pub holders-found : {T : Type 0} (start : T) (top : List (Option ℕ)) (places : List (Option (Node T))) (free : List ℕ) (at n : ℕ) → IsStored top places free → prefix_from places at ≡ Some (whole n)
+    → option_map_or (λ (r : Register T). r.holders) 0 (leaf_in (node_at places at)) ≡ (register_among start (kept_from places) n).holders
+holders-found {T} start top places free at n h here = ap (option_map_or (λ (r : Register T). r.holders) 0) (leaf-known start top places free at n h here)
+
+pub holders-missing : {T : Type 0} (start : T) (top : List (Option ℕ)) (places : List (Option (Node T))) (free : List ℕ) (n : ℕ) → IsStored top places free
+    → ((k : ℕ) → prefix_from places k ≡ Some (whole n) → ⊥) → 0 ≡ (register_among start (kept_from places) n).holders
+holders-missing {T} start top places free n h absent = sym (ap (λ (r : Register T). r.holders) (among-none start n places (leaf-absent n places h.formed absent)))
+
+pub seen-prefix : {T : Type 0} (places : List (Option (Node T))) (i : ℕ) → prefix_at (registers_of places) i ≡ prefix_from places i
+seen-prefix places i = get_or-map prefix_in places i None
+
+pub seen-of : {T : Type 0} (places : List (Option (Node T))) (j : Option ℕ) → prefix_of (registers_of places) j ≡ of (prefix_from places) j
+seen-of places None = refl
+seen-of places (Some i) = seen-prefix places i
+
+if_some_seen : {T : Type 0} (places : List (Option (Node T))) (q : Prefix) (r : Option ℕ) → IfSome r (λ i. prefix_from places i ≡ Some q) → IfSome r (λ i. prefix_at (registers_of places) i ≡ Some q)
+if_some_seen places q None h = tt
+if_some_seen places q (Some i) h = seen-prefix places i ∙ h
+
+if_none_seen : {T : Type 0} (places : List (Option (Node T))) (q : Prefix) (r : Option ℕ) → IfNone r ((i : ℕ) → prefix_from places i ≢ Some q) → IfNone r ((i : ℕ) → prefix_at (registers_of places) i ≢ Some q)
+if_none_seen places q None h i e = h i (sym (seen-prefix places i) ∙ e)
+if_none_seen places q (Some i) h = tt
+
+pub child-some : {T : Type 0} (places : List (Option (Node T))) (parent r : Option ℕ) (digit : ℕ)
+    → ((p : Prefix) → of (prefix_from places) parent ≡ Some p → IfSome r (λ i. prefix_from places i ≡ Some (longer p digit)))
+    → (p : Prefix) → prefix_of (registers_of places) parent ≡ Some p → IfSome r (λ i. prefix_at (registers_of places) i ≡ Some (longer p digit))
+child-some places parent r digit h p e = if_some_seen places (longer p digit) r (h p (sym (seen-of places parent) ∙ e))
+
+pub child-none : {T : Type 0} (places : List (Option (Node T))) (parent r : Option ℕ) (digit : ℕ)
+    → ((p : Prefix) → of (prefix_from places) parent ≡ Some p → IfNone r ((i : ℕ) → prefix_from places i ≢ Some (longer p digit)))
+    → (p : Prefix) → prefix_of (registers_of places) parent ≡ Some p → IfNone r ((i : ℕ) → prefix_at (registers_of places) i ≢ Some (longer p digit))
+child-none places parent r digit h p e = if_none_seen places (longer p digit) r (h p (sym (seen-of places parent) ∙ e))
+
+pub linked-some : (pre : ℕ → Option Prefix) (par : ℕ → Option ℕ) (chi : Option ℕ → ℕ → Option ℕ) → IsLinked pre par chi → (parent r : Option ℕ) (digit : ℕ) → digit < 16 → r ≡ chi parent digit
+    → (p : Prefix) → of pre parent ≡ Some p → IfSome r (λ i. pre i ≡ Some (longer p digit))
+linked-some pre par chi h parent None digit small e p above = tt
+linked-some pre par chi h parent (Some i) digit small e p above = h.some parent p digit i small above (sym e)
+
+pub linked-none : (pre : ℕ → Option Prefix) (par : ℕ → Option ℕ) (chi : Option ℕ → ℕ → Option ℕ) → IsLinked pre par chi → (parent r : Option ℕ) (digit : ℕ) → digit < 16 → r ≡ chi parent digit
+    → (p : Prefix) → of pre parent ≡ Some p → IfNone r ((i : ℕ) → pre i ≢ Some (longer p digit))
+linked-none pre par chi h parent None digit small e p above i there = h.none parent p digit i small above (sym e) there
+linked-none pre par chi h parent (Some i) digit small e p above = tt

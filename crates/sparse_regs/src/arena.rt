@@ -1,9 +1,10 @@
 //! The places of a tree's nodes: a node keeps its place as long as it stands, and a place that is left goes to the next
 //! new node.
-ghost use Rattle.std.specs.Prelude.{◌≡◌, ◌≢◌, ℕ, ◌+◌, ◌-◌, ◌<◌, ◌≤◌, ◌^◌, ◌%◌, ◌∷◌, ◌++◌, true, false, IfSome, IfNone, IsSome, IfOk, OnOk, OnErr, Some, None, [], max, length, vec_len, vec_capacity, slice_index_or, slice_set};
+ghost use Rattle.std.specs.Prelude.{◌≡◌, ◌≢◌, ℕ, ◌+◌, ◌-◌, ◌<◌, ◌≤◌, ◌^◌, ◌%◌, ◌∷◌, ◌++◌, true, false, IfSome, IfNone, IsSome, IsSomeAnd, IfOk, OnOk, OnErr, Some, None, [], max, length, vec_len, vec_capacity, slice_index_or, slice_set};
 ghost use Rattle.std.specs.Option.{option_copied};
-ghost use Rattle.sparse_regs.specs.Prefixes.{whole};
-ghost use Rattle.sparse_regs.specs.Registers.{register_among, register_at, updated, with_holder, without_holder, with_value, with_resized, is_kept, KeepsIndices, slots_of, nodes_of, taken_count};
+ghost use Rattle.sparse_regs.specs.declared.prefix.Prefix.{Prefix};
+ghost use Rattle.sparse_regs.specs.Prefixes.{longer, whole};
+ghost use Rattle.sparse_regs.specs.Registers.{register_among, register_at, updated, with_holder, without_holder, with_value, with_resized, is_kept, value_if_kept, KeepsIndices, slots_of, nodes_of, taken_count};
 ghost use Rattle.sparse_regs.specs.Linked.{of, IsPrefix, shorter};
 ghost use Rattle.sparse_regs.specs.Places.{IsArena, IsTree, IsTightBut, IsCounted, IsSpare, HasRoom, Grew, Shrank, node_at, prefix_from, child_from, leaf_from, stands_in, top_with_child, places_with_child, kept_from, registers_of, SamePrefixes};
 
@@ -328,6 +329,33 @@ impl<T: Slot> Arena<T> {
         old
     }
 
+    /// The size of a box in a register's leaf.
+    fn resize_value(&mut self, leaf: u32, number: u16, part: u8, value: i32)
+        requires arena { IsArena self.old }
+        requires here { prefix_from self.old.places.items leaf ≡ Some (whole number) }
+        requires tight { IsTightBut T.is_initial (Some leaf) self.old.places.items }
+        ensures arena { IsArena self.new }
+        ensures changed { (m : ℕ) → register_at T.start (registers_of self.new.places.items) m
+            ≡ updated number (with_resized (T.resized part value) (register_at T.start (registers_of self.old.places.items) number)) (register_at T.start (registers_of self.old.places.items)) m }
+        ensures same { SamePrefixes self.old.places.items self.new.places.items }
+        ensures tight { IsTightBut T.is_initial (Some leaf) self.new.places.items }
+    {
+        places::resize_value(&mut self.places, leaf as usize, part, value);
+    }
+
+    /// The size of a box in a register.
+    pub fn resize(&mut self, number: u16, part: u8, value: i32)
+        requires tree { IsTree T.is_initial self.old }
+        requires kept { is_kept T.is_initial (register_at T.start (registers_of self.old.places.items) number) ≡ true }
+        ensures tree { IsTree T.is_initial self.new }
+        ensures changed { (m : ℕ) → register_at T.start (registers_of self.new.places.items) m
+            ≡ updated number (with_resized (T.resized part value) (register_at T.start (registers_of self.old.places.items) number)) (register_at T.start (registers_of self.old.places.items)) m }
+        ensures same { SamePrefixes self.old.places.items self.new.places.items }
+    {
+        let leaf = self.leaf(number);
+        self.resize_value(leaf, number, part, value);
+    }
+
     /// How many nodes stand.
     pub fn nodes(&self) -> u32
         requires { IsArena self.now }
@@ -342,6 +370,52 @@ impl<T: Slot> Arena<T> {
         ensures { result ≡ slots_of (registers_of self.now.places.items) }
     {
         self.places.len() as u32
+    }
+}
+
+impl<T: Slot> Arena<T> {
+    /// The value of a register, None where it is initial and not held.
+    pub fn get(&self, number: u16) -> Option<&T>
+        requires { IsTree T.is_initial self.now }
+        ensures { option_copied result ≡ value_if_kept T.is_initial (register_at T.start (registers_of self.now.places.items) number) }
+    {
+        match self.find(number) {
+            Some(leaf) => places::value_at(&self.places, leaf as usize),
+            None => None,
+        }
+    }
+
+    /// How often a register is held.
+    pub fn holders(&self, number: u16) -> u128
+        requires { IsTree T.is_initial self.now }
+        ensures { result ≡ (register_at T.start (registers_of self.now.places.items) number).holders }
+    {
+        match self.find(number) {
+            Some(leaf) => places::holders_at(&self.places, leaf as usize),
+            None => 0,
+        }
+    }
+
+    /// The child of a node, seen by its prefix.
+    pub fn child_of(&self, parent: Option<u32>, digit: u8) -> Option<u32>
+        requires digit { digit < 16 }
+        requires arena { IsArena self.now }
+        ensures some { (p : Prefix) → of (prefix_from self.now.places.items) parent ≡ Some p → IfSome result (λ i. prefix_from self.now.places.items i ≡ Some (longer p digit)) }
+        ensures none { (p : Prefix) → of (prefix_from self.now.places.items) parent ≡ Some p → IfNone result ((i : ℕ) → prefix_from self.now.places.items i ≢ Some (longer p digit)) }
+    {
+        self.child(parent, digit)
+    }
+
+    /// The value of the register whose digits are a node's prefix.
+    pub fn value(&self, node: u32) -> &T
+        requires arena { IsArena self.now }
+        requires leaf { IsSomeAnd (prefix_from self.now.places.items node) (λ p. p.digits ≡ 4) }
+        ensures { (n : ℕ) → prefix_from self.now.places.items node ≡ Some (whole n) → result.now ≡ (register_at T.start (registers_of self.now.places.items) n).value }
+    {
+        match places::value_at(&self.places, node as usize) {
+            Some(value) => value,
+            None => unreachable!(),
+        }
     }
 }
 

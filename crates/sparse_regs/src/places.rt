@@ -1,6 +1,6 @@
 //! What is read and changed at one place.
 ghost use Rattle.std.specs.Prelude.{◌≡◌, ◌+◌, ◌<◌, ◌^◌, IfSome, IsSome, Some, None, length, slice_set, vec_len, vec_capacity};
-ghost use Rattle.std.specs.Option.{option_copied, option_map};
+ghost use Rattle.std.specs.Option.{option_copied, option_map, option_map_or};
 ghost use Rattle.sparse_regs.specs.Registers.{with_holder, without_holder, with_value, with_resized};
 ghost use Rattle.sparse_regs.specs.Places.{node_at, child_in, child_in_content, leaf_in, with_child, with_leaf, stands_in, stands_content, new_content};
 
@@ -170,5 +170,25 @@ pub fn vacate<T>(places: &mut Vec<Option<Node<T>>>, at: usize) -> Node<T>
     match mem::replace(&mut places[at], None) {
         Some(node) => node,
         None => unreachable!(),
+    }
+}
+
+/// The value of the leaf at a place, if one stands there.
+pub fn value_at<T>(places: &[Option<Node<T>>], at: usize) -> Option<&T>
+    ensures { option_copied result ≡ option_map (λ register. register.value) (leaf_in (node_at places.now at)) }
+{
+    match leaf_at(places, at) {
+        Some(register) => Some(&register.value),
+        None => None,
+    }
+}
+
+/// The holders of the leaf at a place, 0 if none stands there.
+pub fn holders_at<T>(places: &[Option<Node<T>>], at: usize) -> u128
+    ensures { result ≡ option_map_or (λ register. register.holders) 0 (leaf_in (node_at places.now at)) }
+{
+    match leaf_at(places, at) {
+        Some(register) => register.holders,
+        None => 0,
     }
 }

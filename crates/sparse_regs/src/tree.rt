@@ -1,6 +1,7 @@
 //! Trees of registers by hexadecimal digits.
-ghost use Rattle.std.specs.Prelude.{◌≡◌, ℕ, ℤ, ◌+◌, ◌<◌, ◌^◌, max, true, Option, None, Some, IfSome, IsSome, IsSomeAnd, OnOk, OnErr};
+ghost use Rattle.std.specs.Prelude.{◌≡◌, ℕ, ℤ, ◌+◌, ◌<◌, ◌^◌, max, true, Option, None, Some, IfSome, IsSome, IsSomeAnd, IfNone, ◌≢◌, OnOk, OnErr};
 ghost use Rattle.std.specs.Option.{option_copied, option_map, option_and_then};
+ghost use Rattle.sparse_regs.specs.declared.prefix.Prefix.{Prefix};
 ghost use Rattle.sparse_regs.specs.Prefixes.{longer, whole, node_count};
 ghost use Rattle.sparse_regs.specs.Registers.{untouched, register_at, updated, with_holder, without_holder, with_value, with_resized, is_kept, value_if_kept, prefix_of, prefix_at, index_of, KeepsIndices, ListsKept, slots_of, nodes_of, numbers_of};
 
@@ -44,7 +45,7 @@ impl<T: Slot> Tree<T> {
     pub fn hold<L: Ledger>(&mut self, n: u16, steps: &mut Steps<L>) -> Result<(), AllocError>
         requires few { (register_at T.start self.old n).holders < 2 ^ 127 }
         ensures held { OnOk result ((m : ℕ) → register_at T.start self.new m ≡ updated n (with_holder (register_at T.start self.old n)) (register_at T.start self.old) m) }
-        ensures indices { OnOk result (KeepsIndices self.old self.new) }
+        ensures indices { KeepsIndices self.old self.new }
         ensures slots { OnOk result (slots_of self.new ≡ max (slots_of self.old) (nodes_of self.new)) }
         ensures err { OnErr result (self.new ≡ self.old) }
         ensures steps { steps.new ≡ steps.old + 1 }
@@ -90,5 +91,37 @@ impl<T: Slot> Tree<T> {
         ensures { result ≡ slots_of self.now }
     {
         self.arena.slots()
+    }
+
+    /// The value of a register, None where it is initial and not held. It takes no memory.
+    pub fn get(&self, n: u16) -> Option<&T>
+        ensures { option_copied result ≡ value_if_kept T.is_initial (register_at T.start self.now n) }
+    {
+        self.arena.get(n)
+    }
+
+    /// How often a register is held. It takes no memory.
+    pub fn holders(&self, n: u16) -> u128
+        ensures { result ≡ (register_at T.start self.now n).holders }
+    {
+        self.arena.holders(n)
+    }
+
+    /// The index of the node for a node's prefix with a digit more, None where that has no node. None as the parent
+    /// is above all nodes. It takes no memory.
+    pub fn child(&self, parent: Option<u32>, digit: u8) -> Option<u32>
+        requires { digit < 16 }
+        ensures some { (p : Prefix) → prefix_of self.now parent ≡ Some p → IfSome result (λ i. prefix_at self.now i ≡ Some (longer p digit)) }
+        ensures none { (p : Prefix) → prefix_of self.now parent ≡ Some p → IfNone result ((i : ℕ) → prefix_at self.now i ≢ Some (longer p digit)) }
+    {
+        self.arena.child_of(parent, digit)
+    }
+
+    /// The value of the register whose four digits are a node's prefix. It takes no memory.
+    pub fn leaf(&self, node: u32) -> &T
+        requires { IsSomeAnd (prefix_at self.now node) (λ p. p.digits ≡ 4) }
+        ensures { (n : ℕ) → prefix_at self.now node ≡ Some (whole n) → result.now ≡ (register_at T.start self.now n).value }
+    {
+        self.arena.value(node)
     }
 }

@@ -9,9 +9,9 @@ use Rattle.sparse_regs.proofs.arena.Arena.hold.Goals as goal
 pub returns-clause-tree : goal.returns-clause-tree
 returns-clause-tree g c = record {
   linked = c.add_holder.ensures.arena;
-  tight = tight-all g.T.Slot.is_initial c.add_holder.new.self.places.items c.in_ok-leaf.field-0 c.add_holder.ensures.tight
-    (known-stands g.T.Slot.start g.T.Slot.is_initial c.add_holder.new.self.top c.add_holder.new.self.places.items c.add_holder.new.self.free.items c.in_ok-leaf.field-0 c.args.number c.add_holder.ensures.arena.stored
-        (c.add_holder.ensures.same.prefixes c.in_ok-leaf.field-0 ∙ c.in_ok-leaf.ensures.here)
+  tight = tight-all g.T.Slot.is_initial c.add_holder.new.self.places.items c.in_ok-leaf.leaf c.add_holder.ensures.tight
+    (known-stands g.T.Slot.start g.T.Slot.is_initial c.add_holder.new.self.top c.add_holder.new.self.places.items c.add_holder.new.self.free.items c.in_ok-leaf.leaf c.args.number c.add_holder.ensures.arena.stored
+        (c.add_holder.ensures.same.prefixes c.in_ok-leaf.leaf ∙ c.in_ok-leaf.ensures.here)
       ∙ held-stands g.T.Slot.is_initial c.args.number _ _ _ (c.add_holder.ensures.changed c.args.number));
 }
 
