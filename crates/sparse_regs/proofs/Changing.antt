@@ -7,6 +7,7 @@ use Rattle.std.proofs.lemmas.Bool.{cases_eq, eq-eqb, eqb-true, and_parts, false�
 use Rattle.std.proofs.lemmas.List.{length-set, length-map}
 use Rattle.std.proofs.lemmas.List.Quantifiers.{position-Some}
 use Rattle.std.proofs.Math.ListN.{get_or-map}
+use Rattle.std.proofs.Math.Seq.{map-set_same}
 use Rattle.sparse_regs.specs.declared.prefix.Prefix.{Prefix}
 use Rattle.sparse_regs.specs.declared.node.Register.{Register}
 use Rattle.sparse_regs.specs.declared.node.Node.{Node}
@@ -266,8 +267,8 @@ value-missing start is_initial top places free n h initial absent =
       ∙ ap (λ b. if not b then Some start else None) initial)
 
 pub holders-found : {T : Type 0} (start : T) (top : List (Option ℕ)) (places : List (Option (Node T))) (free : List ℕ) (at n : ℕ) → IsStored top places free → prefix_from places at ≡ Some (whole n)
-    → option_map_or (λ (r : Register T). r.holders) 0 (leaf_in (node_at places at)) ≡ (register_among start (kept_from places) n).holders
-holders-found {T} start top places free at n h here = ap (option_map_or (λ (r : Register T). r.holders) 0) (leaf-known start top places free at n h here)
+    → option_map_or (λ (r : Register T). r.holders) (leaf_in (node_at places at)) 0 ≡ (register_among start (kept_from places) n).holders
+holders-found {T} start top places free at n h here = ap (λ x. option_map_or (λ (r : Register T). r.holders) x 0) (leaf-known start top places free at n h here)
 
 pub holders-missing : {T : Type 0} (start : T) (top : List (Option ℕ)) (places : List (Option (Node T))) (free : List ℕ) (n : ℕ) → IsStored top places free
     → ((k : ℕ) → prefix_from places k ≡ Some (whole n) → ⊥) → 0 ≡ (register_among start (kept_from places) n).holders
@@ -285,7 +286,7 @@ if_some_seen places q None h = tt
 if_some_seen places q (Some i) h = seen-prefix places i ∙ h
 
 if_none_seen : {T : Type 0} (places : List (Option (Node T))) (q : Prefix) (r : Option ℕ) → IfNone r ((i : ℕ) → prefix_from places i ≢ Some q) → IfNone r ((i : ℕ) → prefix_at (registers_of places) i ≢ Some q)
-if_none_seen places q None h i e = h i (sym (seen-prefix places i) ∙ e)
+if_none_seen places q None h = λ i e. h i (sym (seen-prefix places i) ∙ e)
 if_none_seen places q (Some i) h = tt
 
 pub child-some : {T : Type 0} (places : List (Option (Node T))) (parent r : Option ℕ) (digit : ℕ)
@@ -305,5 +306,8 @@ linked-some pre par chi h parent (Some i) digit small e p above = h.some parent 
 
 pub linked-none : (pre : ℕ → Option Prefix) (par : ℕ → Option ℕ) (chi : Option ℕ → ℕ → Option ℕ) → IsLinked pre par chi → (parent r : Option ℕ) (digit : ℕ) → digit < 16 → r ≡ chi parent digit
     → (p : Prefix) → of pre parent ≡ Some p → IfNone r ((i : ℕ) → pre i ≢ Some (longer p digit))
-linked-none pre par chi h parent None digit small e p above i there = h.none parent p digit i small above (sym e) there
+linked-none pre par chi h parent None digit small e p above = λ i there. h.none parent p digit i small above (sym e) there
 linked-none pre par chi h parent (Some i) digit small e p above = tt
+
+pub changed-prefixes : {T : Type 0} (f : Register T → Register T) (old new : List (Option (Node T))) (at : ℕ) → new ≡ slice_set old at (with_leaf f (node_at old at)) → map prefix_in new ≡ map prefix_in old
+changed-prefixes f old new at e = ap (map prefix_in) e ∙ map-set_same prefix_in old at (with_leaf f (node_at old at)) None (leaf-prefix_in f (node_at old at))

@@ -5,3 +5,4 @@ pub mod Counting
 pub mod Shaping
 pub mod Paths
 pub mod Changing
+pub mod NodeCount

@@ -1,12 +1,12 @@
 //! The places of a tree's nodes: a node keeps its place as long as it stands, and a place that is left goes to the next
 //! new node.
-ghost use Rattle.std.specs.Prelude.{◌≡◌, ◌≢◌, ℕ, ◌+◌, ◌-◌, ◌<◌, ◌≤◌, ◌^◌, ◌%◌, ◌∷◌, ◌++◌, true, false, IfSome, IfNone, IsSome, IsSomeAnd, IfOk, OnOk, OnErr, Some, None, [], max, length, vec_len, vec_capacity, slice_index_or, slice_set};
+ghost use Rattle.std.specs.Prelude.{◌≡◌, ◌≢◌, ℕ, ◌+◌, ◌-◌, ◌<◌, ◌≤◌, ◌^◌, ◌%◌, ◌∷◌, ◌++◌, true, false, IfSome, IfNone, IsSome, IsSomeAnd, IfOk, OnOk, OnErr, Some, None, [], List, max, map, length, vec_len, vec_capacity, slice_index_or, slice_set};
 ghost use Rattle.std.specs.Option.{option_copied};
 ghost use Rattle.sparse_regs.specs.declared.prefix.Prefix.{Prefix};
-ghost use Rattle.sparse_regs.specs.Prefixes.{longer, whole};
-ghost use Rattle.sparse_regs.specs.Registers.{register_among, register_at, updated, with_holder, without_holder, with_value, with_resized, is_kept, value_if_kept, KeepsIndices, slots_of, nodes_of, taken_count};
+ghost use Rattle.sparse_regs.specs.Prefixes.{longer, whole, node_count};
+ghost use Rattle.sparse_regs.specs.Registers.{register_among, register_at, updated, with_holder, without_holder, with_value, with_resized, is_kept, value_if_kept, ListsKept, KeepsIndices, slots_of, nodes_of, taken_count};
 ghost use Rattle.sparse_regs.specs.Linked.{of, IsPrefix, shorter};
-ghost use Rattle.sparse_regs.specs.Places.{IsArena, IsTree, IsTightBut, IsCounted, IsSpare, HasRoom, Grew, Shrank, node_at, prefix_from, child_from, leaf_from, stands_in, top_with_child, places_with_child, kept_from, registers_of, SamePrefixes};
+ghost use Rattle.sparse_regs.specs.Places.{IsArena, IsTree, IsTightBut, IsCounted, IsSpare, HasRoom, Grew, Shrank, node_at, prefix_in, prefix_from, child_from, leaf_from, stands_in, top_with_child, places_with_child, kept_from, registers_of, SamePrefixes};
 
 use crate::children::Children;
 use crate::node::Node;
@@ -338,6 +338,7 @@ impl<T: Slot> Arena<T> {
         ensures changed { (m : ℕ) → register_at T.start (registers_of self.new.places.items) m
             ≡ updated number (with_resized (T.resized part value) (register_at T.start (registers_of self.old.places.items) number)) (register_at T.start (registers_of self.old.places.items)) m }
         ensures same { SamePrefixes self.old.places.items self.new.places.items }
+        ensures prefixes { map prefix_in self.new.places.items ≡ map prefix_in self.old.places.items }
         ensures tight { IsTightBut T.is_initial (Some leaf) self.new.places.items }
     {
         places::resize_value(&mut self.places, leaf as usize, part, value);
@@ -350,7 +351,7 @@ impl<T: Slot> Arena<T> {
         ensures tree { IsTree T.is_initial self.new }
         ensures changed { (m : ℕ) → register_at T.start (registers_of self.new.places.items) m
             ≡ updated number (with_resized (T.resized part value) (register_at T.start (registers_of self.old.places.items) number)) (register_at T.start (registers_of self.old.places.items)) m }
-        ensures same { SamePrefixes self.old.places.items self.new.places.items }
+        ensures prefixes { map prefix_in self.new.places.items ≡ map prefix_in self.old.places.items }
     {
         let leaf = self.leaf(number);
         self.resize_value(leaf, number, part, value);
@@ -358,8 +359,9 @@ impl<T: Slot> Arena<T> {
 
     /// How many nodes stand.
     pub fn nodes(&self) -> u32
-        requires { IsArena self.now }
-        ensures { result ≡ nodes_of (registers_of self.now.places.items) }
+        requires { IsTree T.is_initial self.now }
+        ensures taken { result ≡ nodes_of (registers_of self.now.places.items) }
+        ensures prefixes { (numbers : List ℕ) → ListsKept T.start T.is_initial numbers (registers_of self.now.places.items) → result ≡ node_count numbers }
     {
         (self.places.len() - self.free.len()) as u32
     }

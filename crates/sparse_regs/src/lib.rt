@@ -12,4 +12,6 @@ mod node;
 mod places;
 mod prefix;
 mod slot;
+#[cfg(test)]
+mod tests;
 mod tree;

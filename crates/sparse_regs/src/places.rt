@@ -185,7 +185,7 @@ pub fn value_at<T>(places: &[Option<Node<T>>], at: usize) -> Option<&T>
 
 /// The holders of the leaf at a place, 0 if none stands there.
 pub fn holders_at<T>(places: &[Option<Node<T>>], at: usize) -> u128
-    ensures { result ≡ option_map_or (λ register. register.holders) 0 (leaf_in (node_at places.now at)) }
+    ensures { result ≡ option_map_or (λ register. register.holders) (leaf_in (node_at places.now at)) 0 }
 {
     match leaf_at(places, at) {
         Some(register) => register.holders,

@@ -1,5 +1,5 @@
 //! Trees of registers by hexadecimal digits.
-ghost use Rattle.std.specs.Prelude.{◌≡◌, ℕ, ℤ, ◌+◌, ◌<◌, ◌^◌, max, true, Option, None, Some, IfSome, IsSome, IsSomeAnd, IfNone, ◌≢◌, OnOk, OnErr};
+ghost use Rattle.std.specs.Prelude.{◌≡◌, ℕ, ℤ, ◌+◌, ◌<◌, ◌^◌, max, true, List, Option, None, Some, IfSome, IsSome, IsSomeAnd, IfNone, ◌≢◌, OnOk, OnErr};
 ghost use Rattle.std.specs.Option.{option_copied, option_map, option_and_then};
 ghost use Rattle.sparse_regs.specs.declared.prefix.Prefix.{Prefix};
 ghost use Rattle.sparse_regs.specs.Prefixes.{longer, whole, node_count};
@@ -79,9 +79,21 @@ impl<T: Slot> Tree<T> {
         self.arena.release(n);
     }
 
-    /// How many nodes stand. It takes no memory.
+    /// Sets the width, height or depth, in sp, for part 0, 1 or 2, of a box in a register that has a leaf. It takes no
+    /// memory.
+    pub fn resize(&mut self, n: u16, part: u8, value: i32)
+        requires leaf { is_kept T.is_initial (register_at T.start self.old n) ≡ true }
+        ensures resized { (m : ℕ) → register_at T.start self.new m ≡ updated n (with_resized (T.resized part value) (register_at T.start self.old n)) (register_at T.start self.old) m }
+        ensures places { self.new.places ≡ self.old.places }
+    {
+        self.arena.resize(n, part, value);
+    }
+
+    /// How many nodes stand: one for each prefix of one to four digits of the registers that aren't initial or are
+    /// held. It takes no memory.
     pub fn nodes(&self) -> u32
-        ensures { result ≡ nodes_of self.now }
+        ensures taken { result ≡ nodes_of self.now }
+        ensures prefixes { (numbers : List ℕ) → ListsKept T.start T.is_initial numbers self.now → result ≡ node_count numbers }
     {
         self.arena.nodes()
     }

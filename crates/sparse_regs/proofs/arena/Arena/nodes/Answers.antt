@@ -1,7 +1,15 @@
--- What isn't free stands.
-use Rattle.std.proofs.Common.{◌≡◌, arith}
+-- What isn't free stands, and has a prefix of a register that is kept.
+use Rattle.std.proofs.Common.{◌≡◌, ◌∙◌, arith}
+use Rattle.sparse_regs.specs.Registers.{taken_count}
 use Rattle.sparse_regs.proofs.Changing.{nodes-seen}
+use Rattle.sparse_regs.proofs.NodeCount.{nodes-counted}
 use Rattle.sparse_regs.proofs.arena.Arena.nodes.Goals as goal
 
-pub returns : goal.returns
-returns g c = omega (arith, nodes-seen c.args.self.now.places.items, c.requires.stored.counted.count, c.args.self.now.places.ok, c.args.self.now.free.ok)
+pub returns-clause-taken : goal.returns-clause-taken
+returns-clause-taken g c =
+    omega (arith, nodes-seen c.args.self.now.places.items, c.requires.linked.stored.counted.count, c.args.self.now.places.ok, c.args.self.now.free.ok)
+
+pub returns-clause-prefixes : goal.returns-clause-prefixes
+returns-clause-prefixes g c numbers lists =
+    omega (arith, c.requires.linked.stored.counted.count, c.args.self.now.places.ok, c.args.self.now.free.ok,
+      nodes-counted g.T.Slot.start g.T.Slot.is_initial c.args.self.now.top c.args.self.now.places.items c.args.self.now.free.items c.requires.linked.stored c.requires.tight g.met.T.Slot.start_is_initial numbers lists)
