@@ -127,7 +127,7 @@ member-first n q e = elim (member-head q (first 1 n) (first 2 n ∷ first 3 n �
     inl two ↦ (1, omega arith, two)
     | inr e3 ↦ elim (member-head q (first 3 n) (first 4 n ∷ []) e3) [
       inl three ↦ (2, omega arith, three)
-      | inr e4 ↦ elim (member-head q (first 4 n) [] e4) [ inl four ↦ (3, omega arith, four) | inr no ↦ absurd (cc) ]
+      | inr e4 ↦ elim (member-head q (first 4 n) [] e4) [ inl four ↦ (3, omega arith, four) | inr never ↦ absurd (cc) ]
     ]
   ]
 ]

@@ -44,7 +44,7 @@ at-append (x ∷ xs) (suc k) = at-append xs k
 -- ---- the nodes that stand are no more than there are prefixes
 
 -- what a function makes of the prefixes that stand
-pub by_prefix : {T K : Type 0} → (Prefix → K) → List (Option (Node T)) → List K
+unfoldable pub by_prefix : {T K : Type 0} → (Prefix → K) → List (Option (Node T)) → List K
 by_prefix f [] = []
 by_prefix f (None ∷ places) = by_prefix f places
 by_prefix f (Some node ∷ places) = f node.prefix ∷ by_prefix f places
