@@ -92,35 +92,28 @@ fn replace<L: Ledger>(
     Ok(tree.replace(n, Number(value), steps).0)
 }
 
-/// The nodes, the slots and the node of 1c5a after each of the calls.
-fn seen(tree: &Tree<Number>) -> (u32, u32, Option<u32>) {
-    (tree.nodes(), tree.slots(), way(tree, &[1, 12, 5, 10]))
-}
-
-fn neighbours<L: Ledger>(alloc: Global, blank: Blank) -> Result<bool, Fail>
+/// The nodes and slots after each of some calls, which hold a register or release it, and the node of 1c5a.
+fn play<L: Ledger>(
+    alloc: Global,
+    calls: &[(bool, u16)],
+    blank: Blank,
+) -> Result<Vec<(u32, u32, Option<u32>)>, Fail>
     requires name { blank.name ≡ L.name }
     requires parts { blank.parts ≡ L.parts }
     requires some { 0 < L.parts }
 {
     let mut steps = Steps::<L>::new(blank);
     let mut tree = Tree::new(alloc);
-    hold(&mut tree, 7257, &mut steps)?;
-    hold(&mut tree, 7258, &mut steps)?;
-    let (nodes, slots, both) = seen(&tree);
-    let apart = way(&tree, &[1, 12, 5, 9]) != both;
-    release(&mut tree, 7257, &mut steps)?;
-    let (fewer, _, one) = seen(&tree);
-    release(&mut tree, 7258, &mut steps)?;
-    let (none, _, gone) = seen(&tree);
-    hold(&mut tree, 32_767, &mut steps)?;
-    let (last, still, _) = seen(&tree);
-    Ok(
-        nodes == 5 && slots == 5 && apart && both.is_some() && fewer == 4 && one == both
-            && none == 0
-            && gone.is_none()
-            && last == 4
-            && still == 5,
-    )
+    let mut seen = Vec::new(alloc);
+    for (holds, n) in calls {
+        if *holds {
+            hold(&mut tree, *n, &mut steps)?;
+        } else {
+            release(&mut tree, *n, &mut steps)?;
+        }
+        seen.push((tree.nodes(), tree.slots(), way(&tree, &[1, 12, 5, 10])))?;
+    }
+    Ok(seen)
 }
 
 fn old_values<L: Ledger>(alloc: Global, blank: Blank) -> Result<bool, Fail>
@@ -153,7 +146,22 @@ fn many<L: Ledger>(alloc: Global, blank: Blank) -> Result<(u32, u32), Fail>
 
 #[test]
 fn neighbours_share_nodes(rt: HostRuntime) -> Result<(), Fail> {
-    assert!(rt; neighbours::<Brand>(rt.alloc(), Blank::new(1))?);
+    let calls = [
+        (true, 7257),
+        (true, 7258),
+        (false, 7257),
+        (false, 7258),
+        (true, 32_767),
+    ];
+    let seen = play::<Brand>(rt.alloc(), &calls, Blank::new(1))?;
+    let expected = [
+        (4, 4, None),
+        (5, 5, Some(4)),
+        (4, 5, Some(4)),
+        (0, 5, None),
+        (4, 5, None),
+    ];
+    assert_eq!(rt; seen.as_slice(), expected.as_slice());
     Ok(())
 }
 

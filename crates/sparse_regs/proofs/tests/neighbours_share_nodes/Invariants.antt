@@ -1,5 +1,5 @@
 -- The ledger in which the calls count.
 use Rattle.sparse_regs.proofs.tests.neighbours_share_nodes.Given as goal
 
-abbrev pub ghosts-neighbours : goal.ghosts-neighbours
-ghosts-neighbours g a = record { name = a.blank.name; parts = a.blank.parts }
+abbrev pub ghosts-play : goal.ghosts-play
+ghosts-play g a = record { name = a.blank.name; parts = a.blank.parts }

@@ -5,7 +5,6 @@ use Rattle.std.specs.Option.{is_none}
 use Rattle.std.specs.List.{list_all}
 use Rattle.std.proofs.lemmas.List.Folds.{list_all-map}
 use Rattle.sparse_regs.specs.ChildLinks.{child_of_link}
-use Rattle.sparse_regs.proofs.NodeCount as linking
 use Rattle.sparse_regs.proofs.children.Children.is_empty.Goals as goal
 
 pub returns : goal.returns
