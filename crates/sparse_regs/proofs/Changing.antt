@@ -27,7 +27,7 @@ use Rattle.sparse_regs.proofs.Counting.{count-same, count-le, leaf-changed, leaf
 same_by : {T A : Type 0} (g : Option (Node T) → A) (f : Register T → Register T) → ((x : Option (Node T)) → g (with_leaf f x) ≡ g x)
     → (places : List (Option (Node T))) (at k : ℕ) → at < length places → g (node_at (slice_set places at (with_leaf f (node_at places at))) k) ≡ g (node_at places k)
 same_by g f keeps places at k within = elim (cases_eq k at) [
-  inl e ↦ ap (λ j. g (node_at (slice_set places at (with_leaf f (node_at places at))) j)) e ∙ ap g (at-same places at (with_leaf f (node_at places at)) within) ∙ keeps (node_at places at) ∙ ap (λ j. g (node_at places j)) (sym e)
+  | inl e ↦ ap (λ j. g (node_at (slice_set places at (with_leaf f (node_at places at))) j)) e ∙ ap g (at-same places at (with_leaf f (node_at places at)) within) ∙ keeps (node_at places at) ∙ ap (λ j. g (node_at places j)) (sym e)
   | inr ne ↦ ap g (at-other places at k (with_leaf f (node_at places at)) ne)
 ]
 
@@ -87,7 +87,7 @@ changed-stored {T} f top places free at within h =
     record {
       linked = subst P (sym pre) (subst Q (sym par) (subst R (sym chi) h.linked));
       formed = λ i. elim (cases_eq i at) [
-        inl e ↦ subst IsFormed (sym (at-same places at (with_leaf f (node_at places at)) within) ∙ ap (node_at new) (sym e)) (leaf-formed f (node_at places at) (h.formed at))
+        | inl e ↦ subst IsFormed (sym (at-same places at (with_leaf f (node_at places at)) within) ∙ ap (node_at new) (sym e)) (leaf-formed f (node_at places at) (h.formed at))
         | inr ne ↦ subst IsFormed (sym (at-other places at i (with_leaf f (node_at places at)) ne)) (h.formed i)
       ];
       sixteen = h.sixteen;
@@ -128,7 +128,7 @@ changed-registers {T} start f top places free at n h here m =
     let leaf = prefix-leaf n (node_at places at) (h.formed at) here in
     let known : leaf.0 ≡ register_among start (kept_from places) n = sym (leaf-register start n places at leaf.0 (leaf-alone n places at h.linked.one h.formed here) leaf.1) in
     leaf-changed start n places at (with_leaf f (node_at places at)) leaf.0 (f leaf.0) (at-within places at (whole n) here)
-      (leaf-alone n places at h.linked.one h.formed here) leaf.1 (leaf-kept f n leaf.0 (node_at places at) here leaf.2) m
+    (leaf-alone n places at h.linked.one h.formed here) leaf.1 (leaf-kept f n leaf.0 (node_at places at) here leaf.2) m
     ∙ ap (λ (r : Register T). updated n (f r) (register_among start (kept_from places)) m) known
 
 pub changed-tight : {T : Type 0} (is_initial : T → Bool) (f : Register T → Register T) (places : List (Option (Node T))) (at : ℕ) → IsTightBut is_initial (Some at) places
@@ -256,7 +256,7 @@ pub value-found : {T : Type 0} (start : T) (is_initial : T → Bool) (top : List
     → IsTightBut is_initial None places → option_map (λ (r : Register T). r.value) (leaf_in (node_at places at)) ≡ value_if_kept is_initial (register_among start (kept_from places) n)
 value-found {T} start is_initial top places free at n h here tight =
     let kept : is_kept is_initial (register_among start (kept_from places) n) ≡ true =
-        sym (known-stands start is_initial top places free at n h here) ∙ tight at (λ e. cc) in
+    sym (known-stands start is_initial top places free at n h here) ∙ tight at (λ e. cc) in
     ap (option_map (λ (r : Register T). r.value)) (leaf-known start top places free at n h here)
     ∙ sym (ap (λ b. if b then Some (register_among start (kept_from places) n).value else None) kept)
 
@@ -264,7 +264,7 @@ pub value-missing : {T : Type 0} (start : T) (is_initial : T → Bool) (top : Li
     → ((k : ℕ) → prefix_from places k ≡ Some (whole n) → ⊥) → None ≡ value_if_kept is_initial (register_among start (kept_from places) n)
 value-missing start is_initial top places free n h initial absent =
     sym (ap (value_if_kept is_initial) (among-none start n places (leaf-absent n places h.formed absent))
-      ∙ ap (λ b. if not b then Some start else None) initial)
+    ∙ ap (λ b. if not b then Some start else None) initial)
 
 pub holders-found : {T : Type 0} (start : T) (top : List (Option ℕ)) (places : List (Option (Node T))) (free : List ℕ) (at n : ℕ) → IsStored top places free → prefix_from places at ≡ Some (whole n)
     → option_map_or (λ (r : Register T). r.holders) (leaf_in (node_at places at)) 0 ≡ (register_among start (kept_from places) n).holders

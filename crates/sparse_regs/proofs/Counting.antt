@@ -186,13 +186,13 @@ pub leaf-changed : {T : Type 0} (start : T) (n : ℕ) (places : List (Option (No
     → kept_in (node_at places i) ≡ record { number = n; register = old } ∷ [] → kept_in x ≡ record { number = n; register = new } ∷ []
     → (m : ℕ) → register_among start (kept_from (slice_set places i x)) m ≡ updated n new (register_among start (kept_from places)) m
 leaf-changed start n places i x old new within alone before after m = elim (cases_eq m n) [
-  inl e ↦
-    ap (register_among start (kept_from (slice_set places i x))) e
-    ∙ leaf-register start n (slice_set places i x) i new (λ k ne. ap (is_leaf_of n) (at-other places i k x ne) ∙ alone k ne) (ap kept_in (at-same places i x within) ∙ after)
-    ∙ ap (λ b. if b then new else register_among start (kept_from places) m) (sym (eq-eqb m n e))
+  | inl e ↦
+      ap (register_among start (kept_from (slice_set places i x))) e
+      ∙ leaf-register start n (slice_set places i x) i new (λ k ne. ap (is_leaf_of n) (at-other places i k x ne) ∙ alone k ne) (ap kept_in (at-same places i x within) ∙ after)
+      ∙ ap (λ b. if b then new else register_among start (kept_from places) m) (sym (eq-eqb m n e))
   | inr ne ↦
-    among-other start m places i x (not_leaf n m x new after ne) (not_leaf n m (node_at places i) old before ne)
-    ∙ ap (λ b. if b then new else register_among start (kept_from places) m) (sym (ne_eqb m n ne))
+      among-other start m places i x (not_leaf n m x new after ne) (not_leaf n m (node_at places i) old before ne)
+      ∙ ap (λ b. if b then new else register_among start (kept_from places) m) (sym (ne_eqb m n ne))
 ]
 
 -- a leaf with its value of the start and no holder is made, or goes
@@ -200,10 +200,10 @@ pub leaf-made : {T : Type 0} (start : T) (n : ℕ) (places : List (Option (Node 
     → ((k : ℕ) → is_leaf_of n (node_at places k) ≡ false) → node_at places i ≡ None → kept_in x ≡ record { number = n; register = initial_register start } ∷ []
     → (m : ℕ) → register_among start (kept_from (slice_set places i x)) m ≡ register_among start (kept_from places) m
 leaf-made start n places i x within absent free after m = elim (cases_eq m n) [
-  inl e ↦
-    ap (register_among start (kept_from (slice_set places i x))) e
-    ∙ leaf-register start n (slice_set places i x) i (initial_register start) (λ k ne. ap (is_leaf_of n) (at-other places i k x ne) ∙ absent k) (ap kept_in (at-same places i x within) ∙ after)
-    ∙ sym (among-none start n places absent) ∙ ap (register_among start (kept_from places)) (sym e)
+  | inl e ↦
+      ap (register_among start (kept_from (slice_set places i x))) e
+      ∙ leaf-register start n (slice_set places i x) i (initial_register start) (λ k ne. ap (is_leaf_of n) (at-other places i k x ne) ∙ absent k) (ap kept_in (at-same places i x within) ∙ after)
+      ∙ sym (among-none start n places absent) ∙ ap (register_among start (kept_from places)) (sym e)
   | inr ne ↦ among-other start m places i x (not_leaf n m x (initial_register start) after ne) (ap (is_leaf_of m) free)
 ]
 
@@ -211,15 +211,15 @@ pub leaf-gone : {T : Type 0} (start : T) (n : ℕ) (places : List (Option (Node 
     → ((k : ℕ) → k ≢ i → is_leaf_of n (node_at places k) ≡ false) → kept_in (node_at places i) ≡ record { number = n; register = initial_register start } ∷ []
     → (m : ℕ) → register_among start (kept_from (slice_set places i None)) m ≡ register_among start (kept_from places) m
 leaf-gone start n places i within alone before m = elim (cases_eq m n) [
-  inl e ↦
-    ap (register_among start (kept_from (slice_set places i None))) e
-    ∙ among-none start n (slice_set places i None) none
-    ∙ sym (leaf-register start n places i (initial_register start) alone before) ∙ ap (register_among start (kept_from places)) (sym e)
+  | inl e ↦
+      ap (register_among start (kept_from (slice_set places i None))) e
+      ∙ among-none start n (slice_set places i None) none
+      ∙ sym (leaf-register start n places i (initial_register start) alone before) ∙ ap (register_among start (kept_from places)) (sym e)
   | inr ne ↦ among-other start m places i None refl (not_leaf n m (node_at places i) (initial_register start) before ne)
 ]
   where
     none : (k : ℕ) → is_leaf_of n (node_at (slice_set places i None) k) ≡ false
     none k = elim (cases_eq k i) [
-      inl e ↦ ap (λ j. is_leaf_of n (node_at (slice_set places i None) j)) e ∙ ap (is_leaf_of n) (at-same places i None within)
+      | inl e ↦ ap (λ j. is_leaf_of n (node_at (slice_set places i None) j)) e ∙ ap (is_leaf_of n) (at-same places i None within)
       | inr ne ↦ ap (is_leaf_of n) (at-other places i k None ne) ∙ alone k ne
     ]

@@ -71,93 +71,102 @@ IsLinked-made pre pre' par par' chi chi' j p digit i h m small short above free 
   where
     j-other : j ≢ Some i
     j-other e = let there : of pre (Some i) ≡ Some p = ap (of pre) (sym e) ∙ above in cc
+
     stays : (k : Option ℕ) → k ≢ Some i → of pre' k ≡ of pre k
     stays k ne = of-others pre pre' i m.others k ne
+
     is_new : (q : Prefix) → pre' i ≡ Some q → longer p digit ≡ q
     is_new q e = let f : Some (longer p digit) ≡ Some q = sym m.new ∙ e in cc
+
     shaped' : (k : ℕ) (q : Prefix) → pre' k ≡ Some q → IsPrefix q
     shaped' k q e = elim (cases_eq k i) [
-      inl same ↦ subst IsPrefix (is_new q (ap pre' (sym same) ∙ e)) (IsPrefix-longer p digit (of-shaped pre par chi h j p above) short small)
+      | inl same ↦ subst IsPrefix (is_new q (ap pre' (sym same) ∙ e)) (IsPrefix-longer p digit (of-shaped pre par chi h j p above) short small)
       | inr ne ↦ h.shaped k q (sym (m.others k ne) ∙ e)
     ]
+
     -- no other node has the new prefix
     alone : (k : ℕ) (q : Prefix) → pre k ≡ Some q → longer p digit ≡ q → ⊥
     alone k q e f = h.none j p digit k small above absent (e ∙ ap Some (sym f))
+
     one' : (k l : ℕ) (q : Prefix) → pre' k ≡ Some q → pre' l ≡ Some q → k ≡ l
     one' k l q e f = elim (cases_eq k i) [
-      inl here ↦ elim (cases_eq l i) [
-        inl there ↦ here ∙ sym there
+      | inl here ↦ elim (cases_eq l i) [
+        | inl there ↦ here ∙ sym there
         | inr away ↦ absurd (alone l q (sym (m.others l away) ∙ f) (is_new q (ap pre' (sym here) ∙ e)))
       ]
       | inr ne ↦ elim (cases_eq l i) [
-        inl there ↦ absurd (alone k q (sym (m.others k ne) ∙ e) (is_new q (ap pre' (sym there) ∙ f)))
+        | inl there ↦ absurd (alone k q (sym (m.others k ne) ∙ e) (is_new q (ap pre' (sym there) ∙ f)))
         | inr away ↦ h.one k l q (sym (m.others k ne) ∙ e) (sym (m.others l away) ∙ f)
       ]
     ]
+
     up' : (k : ℕ) (q : Prefix) → pre' k ≡ Some q → of pre' (par' k) ≡ Some (shorter q)
     up' k q e = elim (cases_eq k i) [
-      inl here ↦
-        let prefix : longer p digit ≡ q = is_new q (ap pre' (sym here) ∙ e) in
-        let parent : par' k ≡ j = ap par' here ∙ m.parent in
-        ap (of pre') parent ∙ stays j j-other ∙ above ∙ ap Some (sym (shorter-longer p digit small) ∙ ap shorter prefix)
+      | inl here ↦
+          let prefix : longer p digit ≡ q = is_new q (ap pre' (sym here) ∙ e) in
+          let parent : par' k ≡ j = ap par' here ∙ m.parent in
+          ap (of pre') parent ∙ stays j j-other ∙ above ∙ ap Some (sym (shorter-longer p digit small) ∙ ap shorter prefix)
       | inr ne ↦
-        let was : of pre (par k) ≡ Some (shorter q) = h.up k q (sym (m.others k ne) ∙ e) in
-        let other : par k ≢ Some i = λ (f : par k ≡ Some i). (let there : of pre (Some i) ≡ Some (shorter q) = ap (of pre) (sym f) ∙ was in cc) in
-        ap (of pre') (m.parents k ne) ∙ stays (par k) other ∙ was
+          let was : of pre (par k) ≡ Some (shorter q) = h.up k q (sym (m.others k ne) ∙ e) in
+          let other : par k ≢ Some i = λ (f : par k ≡ Some i). (let there : of pre (Some i) ≡ Some (shorter q) = ap (of pre) (sym f) ∙ was in cc) in
+          ap (of pre') (m.parents k ne) ∙ stays (par k) other ∙ was
     ]
+
     -- a child that stood before still does
     still : (k : ℕ) (q : Prefix) → pre k ≡ Some q → pre' k ≡ Some q
     still k q e = m.others k (λ (same : k ≡ i). (let there : pre i ≡ Some q = ap pre (sym same) ∙ e in cc)) ∙ e
+
     some' : (k : Option ℕ) (q : Prefix) (d l : ℕ) → d < 16 → of pre' k ≡ Some q → chi' k d ≡ Some l → pre' l ≡ Some (longer q d)
     some' k q d l little e f = elim (same_or_not k (Some i)) [
-      inl new ↦ absurd (let no : None ≡ Some l = sym (m.childless d) ∙ ap (λ x. chi' x d) (sym new) ∙ f in cc)
+      | inl new ↦ absurd (let no : None ≡ Some l = sym (m.childless d) ∙ ap (λ x. chi' x d) (sym new) ∙ f in cc)
       | inr old ↦
-        let was : of pre k ≡ Some q = sym (stays k old) ∙ e in
-        elim (same_or_not k j) [
-          inl at_j ↦ elim (cases_eq d digit) [
-            inl same ↦
-              let link : chi' k d ≡ Some i = ap (λ x. chi' k x) same ∙ ap (λ x. chi' x digit) at_j ∙ m.linked in
-              let target : i ≡ l = (let g : Some i ≡ Some l = sym link ∙ f in cc) in
-              let above' : of pre j ≡ Some q = ap (of pre) (sym at_j) ∙ was in
-              let prefix : p ≡ q = (let g : Some p ≡ Some q = sym above ∙ above' in cc) in
-              ap pre' (sym target) ∙ m.new ∙ ap Some (ap (λ x. longer x digit) prefix ∙ ap (longer q) (sym same))
-            | inr differ ↦ still l (longer q d) (h.some k q d l little was (sym (m.same k d differ old) ∙ f))
+          let was : of pre k ≡ Some q = sym (stays k old) ∙ e in
+          elim (same_or_not k j) [
+            | inl at_j ↦ elim (cases_eq d digit) [
+              | inl same ↦
+                  let link : chi' k d ≡ Some i = ap (λ x. chi' k x) same ∙ ap (λ x. chi' x digit) at_j ∙ m.linked in
+                  let target : i ≡ l = (let g : Some i ≡ Some l = sym link ∙ f in cc) in
+                  let above' : of pre j ≡ Some q = ap (of pre) (sym at_j) ∙ was in
+                  let prefix : p ≡ q = (let g : Some p ≡ Some q = sym above ∙ above' in cc) in
+                  ap pre' (sym target) ∙ m.new ∙ ap Some (ap (λ x. longer x digit) prefix ∙ ap (longer q) (sym same))
+              | inr differ ↦ still l (longer q d) (h.some k q d l little was (sym (m.same k d differ old) ∙ f))
+            ]
+            | inr away ↦ still l (longer q d) (h.some k q d l little was (sym (m.elsewhere k d away old) ∙ f))
           ]
-          | inr away ↦ still l (longer q d) (h.some k q d l little was (sym (m.elsewhere k d away old) ∙ f))
-        ]
     ]
+
     none' : (k : Option ℕ) (q : Prefix) (d l : ℕ) → d < 16 → of pre' k ≡ Some q → chi' k d ≡ None → pre' l ≡ Some (longer q d) → ⊥
     none' k q d l little e f there = elim (same_or_not k (Some i)) [
-      inl new ↦
-        let prefix : longer p digit ≡ q = is_new q (ap (of pre') (sym new) ∙ e) in
-        elim (cases_eq l i) [
-          inl here ↦
-            let twice : longer p digit ≡ longer q d = is_new (longer q d) (ap pre' (sym here) ∙ there) in
-            omega (arith, ap (λ (r : Prefix). r.digits) prefix, ap (λ (r : Prefix). r.digits) twice)
-          | inr away ↦ below l q prefix (par l) refl (h.up l (longer q d) (sym (m.others l away) ∙ there) ∙ ap Some (shorter-longer q d little))
-        ]
-      | inr old ↦
-        let was : of pre k ≡ Some q = sym (stays k old) ∙ e in
-        elim (same_or_not k j) [
-          inl at_j ↦
-            let above' : of pre j ≡ Some q = ap (of pre) (sym at_j) ∙ was in
-            let prefix : p ≡ q = (let g : Some p ≡ Some q = sym above ∙ above' in cc) in
-            elim (cases_eq d digit) [
-              inl same ↦
-                let link : chi' k d ≡ Some i = ap (λ x. chi' k x) same ∙ ap (λ x. chi' x digit) at_j ∙ m.linked in
-                (let no : None ≡ Some i = sym f ∙ link in cc)
-              | inr differ ↦ elim (cases_eq l i) [
-                inl here ↦ differ (sym (longer-parts p q digit d small little (is_new (longer q d) (ap pre' (sym here) ∙ there))).1)
-                | inr away ↦ h.none k q d l little was (sym (m.same k d differ old) ∙ f) (sym (m.others l away) ∙ there)
-              ]
-            ]
-          | inr elsewhere ↦ elim (cases_eq l i) [
-            inl here ↦
-              let prefix : p ≡ q = (longer-parts p q digit d small little (is_new (longer q d) (ap pre' (sym here) ∙ there))).0 in
-              elsewhere (of-one pre par chi h k j q was (above ∙ ap Some prefix))
-            | inr away ↦ h.none k q d l little was (sym (m.elsewhere k d elsewhere old) ∙ f) (sym (m.others l away) ∙ there)
+      | inl new ↦
+          let prefix : longer p digit ≡ q = is_new q (ap (of pre') (sym new) ∙ e) in
+          elim (cases_eq l i) [
+            | inl here ↦
+                let twice : longer p digit ≡ longer q d = is_new (longer q d) (ap pre' (sym here) ∙ there) in
+                omega (arith, ap (λ (r : Prefix). r.digits) prefix, ap (λ (r : Prefix). r.digits) twice)
+            | inr away ↦ below l q prefix (par l) refl (h.up l (longer q d) (sym (m.others l away) ∙ there) ∙ ap Some (shorter-longer q d little))
           ]
-        ]
+      | inr old ↦
+          let was : of pre k ≡ Some q = sym (stays k old) ∙ e in
+          elim (same_or_not k j) [
+            | inl at_j ↦
+                let above' : of pre j ≡ Some q = ap (of pre) (sym at_j) ∙ was in
+                let prefix : p ≡ q = (let g : Some p ≡ Some q = sym above ∙ above' in cc) in
+                elim (cases_eq d digit) [
+                  | inl same ↦
+                      let link : chi' k d ≡ Some i = ap (λ x. chi' k x) same ∙ ap (λ x. chi' x digit) at_j ∙ m.linked in
+                      (let no : None ≡ Some i = sym f ∙ link in cc)
+                  | inr differ ↦ elim (cases_eq l i) [
+                    | inl here ↦ differ (sym (longer-parts p q digit d small little (is_new (longer q d) (ap pre' (sym here) ∙ there))).1)
+                    | inr away ↦ h.none k q d l little was (sym (m.same k d differ old) ∙ f) (sym (m.others l away) ∙ there)
+                  ]
+                ]
+            | inr elsewhere ↦ elim (cases_eq l i) [
+              | inl here ↦
+                  let prefix : p ≡ q = (longer-parts p q digit d small little (is_new (longer q d) (ap pre' (sym here) ∙ there))).0 in
+                  elsewhere (of-one pre par chi h k j q was (above ∙ ap Some prefix))
+              | inr away ↦ h.none k q d l little was (sym (m.elsewhere k d elsewhere old) ∙ f) (sym (m.others l away) ∙ there)
+            ]
+          ]
     ]
       where
         below : (l : ℕ) (q : Prefix) → longer p digit ≡ q → (a : Option ℕ) → par l ≡ a → of pre (par l) ≡ Some q → ⊥
@@ -174,23 +183,30 @@ IsLinked-gone pre pre' par par' chi chi' j p digit i h m small above here childl
   where
     not_gone : (k : ℕ) (q : Prefix) → pre' k ≡ Some q → k ≢ i
     not_gone k q e same = let no : None ≡ Some q = sym m.gone ∙ ap pre' (sym same) ∙ e in cc
+
     was : (k : ℕ) (q : Prefix) → pre' k ≡ Some q → pre k ≡ Some q
     was k q e = sym (m.others k (not_gone k q e)) ∙ e
+
     of_not_gone : (k : Option ℕ) (q : Prefix) → of pre' k ≡ Some q → k ≢ Some i
     of_not_gone None q e f = cc
     of_not_gone (Some k) q e f = not_gone k q e (cc)
+
     of_was : (k : Option ℕ) (q : Prefix) → of pre' k ≡ Some q → of pre k ≡ Some q
     of_was k q e = sym (of-others pre pre' i m.others k (of_not_gone k q e)) ∙ e
+
     shaped' : (k : ℕ) (q : Prefix) → pre' k ≡ Some q → IsPrefix q
     shaped' k q e = h.shaped k q (was k q e)
+
     one' : (k l : ℕ) (q : Prefix) → pre' k ≡ Some q → pre' l ≡ Some q → k ≡ l
     one' k l q e f = h.one k l q (was k q e) (was l q f)
+
     up' : (k : ℕ) (q : Prefix) → pre' k ≡ Some q → of pre' (par' k) ≡ Some (shorter q)
     up' k q e =
         let up : of pre (par k) ≡ Some (shorter q) = h.up k q (was k q e) in
         let last : longer (shorter q) (q.number % 16) ≡ q = longer-shorter q (h.shaped k q (was k q e)).least in
         let other : par k ≢ Some i = λ (f : par k ≡ Some i). h.none (Some i) (shorter q) (q.number % 16) k (omega arith) (ap (of pre) (sym f) ∙ up) (childless (q.number % 16) (omega arith)) (was k q e ∙ ap Some (sym last)) in
         ap (of pre') (m.parents k (not_gone k q e)) ∙ of-others pre pre' i m.others (par k) other ∙ up
+
     -- a child of another node, or by another digit, isn't the one that goes
     apart : (k : Option ℕ) (q : Prefix) (d l : ℕ) → d < 16 → of pre k ≡ Some q → pre l ≡ Some (longer q d) → (k ≢ j) ⊎ (d ≢ digit) → l ≢ i
     apart k q d l little e f (inl away) same =
@@ -199,30 +215,32 @@ IsLinked-gone pre pre' par par' chi chi' j p digit i h m small above here childl
     apart k q d l little e f (inr differ) same =
         let prefix : longer p digit ≡ longer q d = (let g : Some (longer p digit) ≡ Some (longer q d) = sym here ∙ ap pre (sym same) ∙ f in cc) in
         differ (sym (longer-parts p q digit d small little prefix).1)
+
     some' : (k : Option ℕ) (q : Prefix) (d l : ℕ) → d < 16 → of pre' k ≡ Some q → chi' k d ≡ Some l → pre' l ≡ Some (longer q d)
     some' k q d l little e f =
         let old : k ≢ Some i = of_not_gone k q e in
         elim (cases_eq d digit) [
-          inl same ↦ elim (same_or_not k j) [
-            inl at_j ↦ absurd (let no : None ≡ Some l = sym m.unlinked ∙ ap (λ x. chi' x digit) (sym at_j) ∙ ap (λ x. chi' k x) (sym same) ∙ f in cc)
+          | inl same ↦ elim (same_or_not k j) [
+            | inl at_j ↦ absurd (let no : None ≡ Some l = sym m.unlinked ∙ ap (λ x. chi' x digit) (sym at_j) ∙ ap (λ x. chi' k x) (sym same) ∙ f in cc)
             | inr away ↦
-              let there : pre l ≡ Some (longer q d) = h.some k q d l little (of_was k q e) (sym (m.elsewhere k d away old) ∙ f) in
-              m.others l (apart k q d l little (of_was k q e) there (inl away)) ∙ there
+                let there : pre l ≡ Some (longer q d) = h.some k q d l little (of_was k q e) (sym (m.elsewhere k d away old) ∙ f) in
+                m.others l (apart k q d l little (of_was k q e) there (inl away)) ∙ there
           ]
           | inr differ ↦
-            let there : pre l ≡ Some (longer q d) = h.some k q d l little (of_was k q e) (sym (m.same k d differ old) ∙ f) in
-            m.others l (apart k q d l little (of_was k q e) there (inr differ)) ∙ there
+              let there : pre l ≡ Some (longer q d) = h.some k q d l little (of_was k q e) (sym (m.same k d differ old) ∙ f) in
+              m.others l (apart k q d l little (of_was k q e) there (inr differ)) ∙ there
         ]
+
     none' : (k : Option ℕ) (q : Prefix) (d l : ℕ) → d < 16 → of pre' k ≡ Some q → chi' k d ≡ None → pre' l ≡ Some (longer q d) → ⊥
     none' k q d l little e f there =
         let old : k ≢ Some i = of_not_gone k q e in
         elim (cases_eq d digit) [
-          inl same ↦ elim (same_or_not k j) [
-            inl at_j ↦
-              let above' : of pre j ≡ Some q = ap (of pre) (sym at_j) ∙ of_was k q e in
-              let prefix : p ≡ q = (let g : Some p ≡ Some q = sym above ∙ above' in cc) in
-              let prefixes : longer p digit ≡ longer q d = ap (λ x. longer x digit) prefix ∙ ap (longer q) (sym same) in
-              not_gone l (longer q d) there (h.one l i (longer q d) (was l (longer q d) there) (here ∙ ap Some prefixes))
+          | inl same ↦ elim (same_or_not k j) [
+            | inl at_j ↦
+                let above' : of pre j ≡ Some q = ap (of pre) (sym at_j) ∙ of_was k q e in
+                let prefix : p ≡ q = (let g : Some p ≡ Some q = sym above ∙ above' in cc) in
+                let prefixes : longer p digit ≡ longer q d = ap (λ x. longer x digit) prefix ∙ ap (longer q) (sym same) in
+                not_gone l (longer q d) there (h.one l i (longer q d) (was l (longer q d) there) (here ∙ ap Some prefixes))
             | inr away ↦ h.none k q d l little (of_was k q e) (sym (m.elsewhere k d away old) ∙ f) (was l (longer q d) there)
           ]
           | inr differ ↦ h.none k q d l little (of_was k q e) (sym (m.same k d differ old) ∙ f) (was l (longer q d) there)

@@ -77,7 +77,7 @@ unfolding by_prefix
 member-standing [] q e = cc
 member-standing (None ∷ places) q e = let rest = member-standing places q e in (suc rest.0, rest.1)
 member-standing (Some node ∷ places) q e = elim (member-head q node.prefix (by_prefix (λ p. p) places) e) [
-  inl here ↦ (zero, ap Some (sym here))
+  | inl here ↦ (zero, ap Some (sym here))
   | inr there ↦ let rest = member-standing places q there in (suc rest.0, rest.1)
 ]
 
@@ -89,9 +89,11 @@ number-member (m ∷ numbers) n q e f = by_test (m == n) refl (number-member num
   where
     append : is_member same_prefix (prefixes (m ∷ numbers)) q ≡ (is_member same_prefix (prefixes_of m) q || is_member same_prefix (prefixes numbers) q)
     append = list_any-append (same_prefix q) (prefixes_of m) (prefixes numbers)
+
     or_second : (a : Bool) → (a || true) ≡ true
     or_second true = refl
     or_second false = refl
+
     by_test : (b : Bool) → (m == n) ≡ b → (list_any (λ k. k == n) numbers ≡ true → is_member same_prefix (prefixes_of n) q ≡ true → is_member same_prefix (prefixes numbers) q ≡ true) → is_member same_prefix (prefixes (m ∷ numbers)) q ≡ true
     by_test true t rest = append ∙ ap (λ b. b || is_member same_prefix (prefixes numbers) q) (ap (λ k. is_member same_prefix (prefixes_of k) q) (eqb-true m n t) ∙ f)
     by_test false t rest = append ∙ ap (λ b. is_member same_prefix (prefixes_of m) q || b) (rest (sym (ap (λ b. b || list_any (λ k. k == n) numbers) t) ∙ e) f) ∙ or_second (is_member same_prefix (prefixes_of m) q)
@@ -102,9 +104,11 @@ member-number (m ∷ numbers) q e = by_test (is_member same_prefix (prefixes_of 
   where
     append : is_member same_prefix (prefixes (m ∷ numbers)) q ≡ (is_member same_prefix (prefixes_of m) q || is_member same_prefix (prefixes numbers) q)
     append = list_any-append (same_prefix q) (prefixes_of m) (prefixes numbers)
+
     or_second : (a : Bool) → (a || true) ≡ true
     or_second true = refl
     or_second false = refl
+
     by_test : (b : Bool) → is_member same_prefix (prefixes_of m) q ≡ b → (is_member same_prefix (prefixes numbers) q ≡ true → (n : ℕ) × (list_any (λ k. k == n) numbers ≡ true) × (is_member same_prefix (prefixes_of n) q ≡ true))
         → (n : ℕ) × (list_any (λ k. k == n) (m ∷ numbers) ≡ true) × (is_member same_prefix (prefixes_of n) q ≡ true)
     by_test true t rest = (m, ap (λ b. b || list_any (λ k. k == m) numbers) (eq-eqb m m refl), t)
@@ -122,11 +126,11 @@ first-member (suc (suc (suc (suc k)))) n q less e = absurd (omega arith)
 
 member-first : (n : ℕ) (q : Prefix) → is_member same_prefix (prefixes_of n) q ≡ true → (k : ℕ) × (k < 4) × (q ≡ first (k + 1) n)
 member-first n q e = elim (member-head q (first 1 n) (first 2 n ∷ first 3 n ∷ first 4 n ∷ []) e) [
-  inl one ↦ (0, omega arith, one)
+  | inl one ↦ (0, omega arith, one)
   | inr e2 ↦ elim (member-head q (first 2 n) (first 3 n ∷ first 4 n ∷ []) e2) [
-    inl two ↦ (1, omega arith, two)
+    | inl two ↦ (1, omega arith, two)
     | inr e3 ↦ elim (member-head q (first 3 n) (first 4 n ∷ []) e3) [
-      inl three ↦ (2, omega arith, three)
+      | inl three ↦ (2, omega arith, three)
       | inr e4 ↦ elim (member-head q (first 4 n) [] e4) [ inl four ↦ (3, omega arith, four) | inr never ↦ absurd (cc) ]
     ]
   ]
@@ -184,7 +188,7 @@ pub nodes-counted : {T : Type 0} (start : T) (is_initial : T → Bool) (top : Li
 nodes-counted {T} start is_initial top places free h tight initial numbers lists =
     sym (length-by_prefix (λ p. p) places)
     ∙ length-from_keys same_prefix-laws (by_prefix (λ p. p) places) (prefixes numbers) (distinct-by_prefix same_prefix (λ p. p) places h.linked.shaped (λ p q _ _ e. same_prefix-equal p q e) h.linked.one)
-      (λ q. both _ _ (into q) (back q))
+    (λ q. both _ _ (into q) (back q))
   where
     into : (q : Prefix) → is_member same_prefix (by_prefix (λ p. p) places) q ≡ true → is_member same_prefix (prefixes numbers) q ≡ true
     into q e =
@@ -192,12 +196,14 @@ nodes-counted {T} start is_initial top places free h tight initial numbers lists
         let shape : IsPrefix q = h.linked.shaped at.0 q at.1 in
         let below = leaf-below is_initial top places free h tight (4 - q.digits) at.0 q at.1 (omega (arith, shape.most)) in
         let kept : is_kept is_initial (register_among start (kept_from places) below.0) ≡ true =
-            sym (known-stands start is_initial top places free below.1 below.0 h below.2) ∙ tight below.1 (λ (no : Some below.1 ≡ None). cc) in
+        sym (known-stands start is_initial top places free below.1 below.0 h below.2) ∙ tight below.1 (λ (no : Some below.1 ≡ None). cc) in
         let digits : q.digits ≡ q.digits - 1 + 1 = omega (arith, shape.least) in
         number-member numbers below.0 q (lists below.0 ∙ kept) (first-member (q.digits - 1) below.0 q (omega (arith, shape.least, shape.most)) (below.3 ∙ ap (λ m. first m below.0) digits))
+
     leaf_of : (n : ℕ) → is_kept is_initial (register_among start (kept_from places) n) ≡ true → (b : Bool) → is_member same_prefix (by_prefix (λ p. p) places) (whole n) ≡ b → (i : ℕ) × (prefix_from places i ≡ Some (whole n))
     leaf_of n kept true t = member-standing places (whole n) t
     leaf_of n kept false t = absurd (kept-leaf start is_initial top places free n h initial kept (λ k e. false≢true (sym t ∙ standing-member places k (whole n) e)))
+
     back : (q : Prefix) → is_member same_prefix (prefixes numbers) q ≡ true → is_member same_prefix (by_prefix (λ p. p) places) q ≡ true
     back q e =
         let found = member-number numbers q e in

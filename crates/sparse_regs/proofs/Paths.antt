@@ -65,10 +65,13 @@ first-standing pre par chi h i n e = at_digit
   where
     three : (t : ℕ) × (pre t ≡ Some (first 3 n))
     three = above-node pre par chi h i (whole n) (first 3 n) e (prefix_ext (shorter (whole n)) (first 3 n) refl refl) (omega arith)
+
     two : (t : ℕ) × (pre t ≡ Some (first 2 n))
     two = above-node pre par chi h three.0 (first 3 n) (first 2 n) three.1 (prefix_ext (shorter (first 3 n)) (first 2 n) refl (omega arith)) (omega arith)
+
     one : (t : ℕ) × (pre t ≡ Some (first 1 n))
     one = above-node pre par chi h two.0 (first 2 n) (first 1 n) two.1 (prefix_ext (shorter (first 2 n)) (first 1 n) refl (omega arith)) (omega arith)
+
     at_digit : (k : ℕ) → k < 4 → (t : ℕ) × (pre t ≡ Some (first (k + 1) n))
     at_digit zero less = one
     at_digit (suc zero) less = two

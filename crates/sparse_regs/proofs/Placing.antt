@@ -99,7 +99,7 @@ at-other places i k x ne = get_or-set_other places i k x None ne
 -- where a node stands, there is a place
 pub at-within : {T : Type 0} (places : List (Option (Node T))) (i : ℕ) (p : Prefix) → prefix_from places i ≡ Some p → i < length places
 at-within places i p h = elim (lt_or_le i (length places)) [
-  inl within ↦ within
+  | inl within ↦ within
   | inr beyond ↦ absurd (let no : None ≡ Some p = ap prefix_in (sym (get_or-eq_default places None beyond)) ∙ h in cc)
 ]
   where
@@ -128,7 +128,7 @@ put old taken at x (Some j) p digit c same within above apart =
     record {
       here = at-other (slice_set taken at x) j at y (λ (e : at ≡ j). other (sym e)) ∙ at-same taken at x within;
       above = λ k (e : Some j ≡ Some k). (let same_j : j ≡ k = cc in
-        ap (node_at (slice_set (slice_set taken at x) j y)) (sym same_j) ∙ at-same (slice_set taken at x) j y j_within ∙ ap (with_child digit c) j_old ∙ ap (λ i. with_child digit c (node_at old i)) same_j);
+          ap (node_at (slice_set (slice_set taken at x) j y)) (sym same_j) ∙ at-same (slice_set taken at x) j y j_within ∙ ap (with_child digit c) j_old ∙ ap (λ i. with_child digit c (node_at old i)) same_j);
       others = λ k ne (away : Some j ≢ Some k). at-other (slice_set taken at x) j k y (λ (e : k ≡ j). away (ap Some (sym e))) ∙ at-other taken at k x ne ∙ same k;
     }
 
@@ -136,7 +136,7 @@ put-by : {T : Type 0} {A : Type 0} (f : Option (Node T) → A) (old new : List (
     → ((y : Option (Node T)) → f (with_child digit c y) ≡ f y) → IsPut old new at x parent digit c
     → (k : ℕ) → k ≢ at → f (node_at new k) ≡ f (node_at old k)
 put-by f old new at x parent digit c keeps h k ne = elim (same_or_not parent (Some k)) [
-  inl e ↦ ap f (h.above k e) ∙ keeps (node_at old k)
+  | inl e ↦ ap f (h.above k e) ∙ keeps (node_at old k)
   | inr away ↦ ap f (h.others k ne away)
 ]
 
@@ -151,9 +151,9 @@ put-parent old new at x parent digit c h k ne = put-by parent_in old new at x pa
 pub put-formed : {T : Type 0} (old new : List (Option (Node T))) (at : ℕ) (x : Option (Node T)) (parent : Option ℕ) (digit : ℕ) (c : Option ℕ)
     → IsPut old new at x parent digit c → ((i : ℕ) → IsFormed (node_at old i)) → IsFormed x → (i : ℕ) → IsFormed (node_at new i)
 put-formed old new at x parent digit c h formed here i = elim (cases_eq i at) [
-  inl e ↦ subst IsFormed (sym h.here ∙ ap (node_at new) (sym e)) here
+  | inl e ↦ subst IsFormed (sym h.here ∙ ap (node_at new) (sym e)) here
   | inr ne ↦ elim (same_or_not parent (Some i)) [
-    inl e ↦ subst IsFormed (sym (h.above i e)) (formed-with_child digit c (node_at old i) (formed i))
+    | inl e ↦ subst IsFormed (sym (h.above i e)) (formed-with_child digit c (node_at old i) (formed i))
     | inr away ↦ subst IsFormed (sym (h.others i ne away)) (formed i)
   ]
 ]
@@ -224,13 +224,13 @@ pub made-tight : {T : Type 0} (is_initial : T → Bool) (old new : List (Option 
     → IsPut old new at x parent digit (Some at) → ((i : ℕ) → IsFormed (node_at old i)) → of (prefix_from old) parent ≡ Some p → p.digits < 4 → digit < 16
     → IsTightBut is_initial parent old → IsTightBut is_initial (Some at) new
 made-tight is_initial old new at x parent p digit h formed above short small tight i ne = elim (same_or_not parent (Some i)) [
-  inl e ↦ ap (stands_in is_initial) (h.above i e) ∙ stands-with_child is_initial digit at (node_at old i) p short small (ap (of (prefix_from old)) (sym e) ∙ above) (formed i)
+  | inl e ↦ ap (stands_in is_initial) (h.above i e) ∙ stands-with_child is_initial digit at (node_at old i) p short small (ap (of (prefix_from old)) (sym e) ∙ above) (formed i)
   | inr away ↦ ap (stands_in is_initial) (h.others i (λ e. ne (ap Some e)) away) ∙ tight i (λ e. away (sym e))
 ]
 
 pub gone-tight : {T : Type 0} (is_initial : T → Bool) (old new : List (Option (Node T))) (at : ℕ) (parent : Option ℕ) (digit : ℕ)
     → IsPut old new at None parent digit None → IsTightBut is_initial (Some at) old → IsTightBut is_initial parent new
 gone-tight is_initial old new at parent digit h tight i ne = elim (cases_eq i at) [
-  inl e ↦ ap (λ k. stands_in is_initial (node_at new k)) e ∙ ap (stands_in is_initial) h.here
+  | inl e ↦ ap (λ k. stands_in is_initial (node_at new k)) e ∙ ap (stands_in is_initial) h.here
   | inr other ↦ ap (stands_in is_initial) (h.others i other (λ e. ne (sym e))) ∙ tight i (λ (e : Some i ≡ Some at). other (cc))
 ]

@@ -73,12 +73,13 @@ unfolding by_prefix IsDistinct
 distinct-by_prefix eq f [] shaped same one = tt
 distinct-by_prefix eq f (None ∷ places) shaped same one =
     distinct-by_prefix eq f places (λ k. shaped (suc k)) same (λ k j p e g. omega (arith, one (suc k) (suc j) p e g))
-distinct-by_prefix eq f (Some node ∷ places) shaped same one =
-    (all-by_prefix f (λ y. eq (f node.prefix) y ≡ false) places (λ k p e. false_from_ne_true _ (λ t.
-        let equal : node.prefix ≡ p = same node.prefix p (shaped 0 node.prefix refl) (shaped (suc k) p e) t in
-        let zero_is : 0 ≡ suc k = one 0 (suc k) p (ap Some equal) e in
-        omega (arith, zero_is))),
-      distinct-by_prefix eq f places (λ k. shaped (suc k)) same (λ k j p e g. omega (arith, one (suc k) (suc j) p e g)))
+distinct-by_prefix eq f (Some node ∷ places) shaped same one = (
+  all-by_prefix f (λ y. eq (f node.prefix) y ≡ false) places (λ k p e. false_from_ne_true _ (λ t.
+      let equal : node.prefix ≡ p = same node.prefix p (shaped 0 node.prefix refl) (shaped (suc k) p e) t in
+      let zero_is : 0 ≡ suc k = one 0 (suc k) p (ap Some equal) e in
+      omega (arith, zero_is))),
+  distinct-by_prefix eq f places (λ k. shaped (suc k)) same (λ k j p e g. omega (arith, one (suc k) (suc j) p e g)),
+)
 
 code : Prefix → ℕ
 code p = 65536 * p.digits + p.number
@@ -95,7 +96,7 @@ below_all n q (x ∷ xs) h e = below_head n q x xs h.0 (below_all n q xs h.1) e
   where
     below_head : (n q x : ℕ) (xs : List ℕ) → x < n → (list_any (λ y. q == y) xs ≡ true → q < n) → list_any (λ y. q == y) (x ∷ xs) ≡ true → q < n
     below_head n q x xs here rest e = elim (cases_eq q x) [
-      inl same ↦ omega arith
+      | inl same ↦ omega arith
       | inr ne ↦ rest (sym (ap (λ b. b || list_any (λ y. q == y) xs) (ne_eqb q x ne)) ∙ e)
     ]
 
@@ -107,8 +108,8 @@ pub few-taken : {T : Type 0} (places : List (Option (Node T))) (par : ℕ → Op
     → IsLinked (prefix_from places) par chi → taken_count places ≤ 327680
 few-taken places par chi h =
     let few : length (by_prefix code places) ≤ 327680 = length-le_from_distinct_below (by_prefix code places) 327680
-        (distinct-by_prefix (λ (a b : ℕ). a == b) code places h.shaped code-same h.one)
-        (λ q e. below_all 327680 q (by_prefix code places) (all-by_prefix code (λ x. x < 327680) places (λ k p g. code-small p (h.shaped k p g))) e) in
+    (distinct-by_prefix (λ (a b : ℕ). a == b) code places h.shaped code-same h.one)
+    (λ q e. below_all 327680 q (by_prefix code places) (all-by_prefix code (λ x. x < 327680) places (λ k p g. code-small p (h.shaped k p g))) e) in
     omega (arith, length-by_prefix code places, few)
 
 -- ---- a node is made
@@ -127,7 +128,7 @@ nothing_at (suc n) (suc d) = nothing_at n d
 
 pub new-formed : {T : Type 0} (start : T) (digits : ℕ) → digits ≤ 4 → IsFormedContent digits (new_content start digits)
 new-formed start digits h = elim (cases_eq digits 4) [
-  inl e ↦ let P : Bool → Type 0 = λ b. IsFormedContent digits (if b then Leaf (initial_register start) else Index (replicate 16 None)) in subst P (sym (eq-eqb digits 4 e)) e
+  | inl e ↦ let P : Bool → Type 0 = λ b. IsFormedContent digits (if b then Leaf (initial_register start) else Index (replicate 16 None)) in subst P (sym (eq-eqb digits 4 e)) e
   | inr ne ↦ let P : Bool → Type 0 = λ b. IsFormedContent digits (if b then Leaf (initial_register start) else Index (replicate 16 None)) in subst P (sym (ne_eqb digits 4 ne)) (omega arith, refl)
 ]
 
@@ -194,9 +195,10 @@ pub making-count : {T : Type 0} (start : T) (top top' : List (Option ℕ)) (old 
     → IsMaking start top top' old taken new free free' at parent prefix → (taken_count new ≡ taken_count old + 1) × (length new ≡ length taken)
 making-count {T} start top top' old taken new free free' at parent prefix h =
     let node : Node T = record { prefix = prefix; parent = parent; content = new_content start prefix.digits } in
-    let put_count : taken_count (slice_set taken at (Some node)) ≡ taken_count taken + 1 = count-taken taken at node h.spare.here h.spare.vacant in
-    (ap taken_count h.new_places ∙ count-with_child parent (prefix.number % 16) (Some at) (slice_set taken at (Some node)) ∙ put_count ∙ ap (λ n. n + 1) h.count,
-      ap length h.new_places ∙ length-with_child parent (prefix.number % 16) (Some at) (slice_set taken at (Some node)) ∙ length-set taken at (Some node))
+    let put_count : taken_count (slice_set taken at (Some node)) ≡ taken_count taken + 1 = count-taken taken at node h.spare.here h.spare.vacant in (
+      ap taken_count h.new_places ∙ count-with_child parent (prefix.number % 16) (Some at) (slice_set taken at (Some node)) ∙ put_count ∙ ap (λ n. n + 1) h.count,
+      ap length h.new_places ∙ length-with_child parent (prefix.number % 16) (Some at) (slice_set taken at (Some node)) ∙ length-set taken at (Some node),
+    )
 
 pub making-stored : {T : Type 0} (start : T) (top top' : List (Option ℕ)) (old taken new : List (Option (Node T))) (free free' : List ℕ) (at : ℕ) (parent : Option ℕ) (prefix : Prefix)
     → IsMaking start top top' old taken new free free' at parent prefix → IsStored top' new free'
@@ -205,12 +207,12 @@ making-stored {T} start top top' old taken new free free' at parent prefix h =
     let digit = prefix.number % 16 in
     let placed : IsPut old new at (Some node) parent digit (Some at) = making-put start top top' old taken new free free' at parent prefix h in
     let linked : IsLinked (prefix_from new) (parent_from new) (child_from (top_with_child parent digit (Some at) top) new) =
-        made-linked top old new at node parent (shorter prefix) digit placed h.stored.linked h.stored.sixteen h.stored.formed h.above (omega (arith, h.shape.least, h.shape.most)) (omega arith)
-        (making-vacant start top top' old taken new free free' at parent prefix h) h.absent (sym (longer-shorter prefix h.shape.least)) refl (λ d. new-childless start prefix.digits d) in
+    made-linked top old new at node parent (shorter prefix) digit placed h.stored.linked h.stored.sixteen h.stored.formed h.above (omega (arith, h.shape.least, h.shape.most)) (omega arith)
+    (making-vacant start top top' old taken new free free' at parent prefix h) h.absent (sym (longer-shorter prefix h.shape.least)) refl (λ d. new-childless start prefix.digits d) in
     let counts = making-count start top top' old taken new free free' at parent prefix h in
     let P : List (Option ℕ) → Type 0 = λ t. IsLinked (prefix_from new) (parent_from new) (child_from t new) in
     let free_stays : (k : ℕ) → k < length free' → node_at new (slice_index_or free' k 0) ≡ None = λ k less.
-        none_by_prefix _ (put-prefix old new at (Some node) parent digit (Some at) placed (slice_index_or free' k 0) (h.spare.other k less) ∙ ap prefix_in (sym (h.same (slice_index_or free' k 0)) ∙ h.spare.empty k less)) in
+    none_by_prefix _ (put-prefix old new at (Some node) parent digit (Some at) placed (slice_index_or free' k 0) (h.spare.other k less) ∙ ap prefix_in (sym (h.same (slice_index_or free' k 0)) ∙ h.spare.empty k less)) in
     record {
       linked = subst P (sym h.new_top) linked;
       formed = put-formed old new at (Some node) parent digit (Some at) placed h.stored.formed (new-formed start prefix.digits h.shape.most);
@@ -221,7 +223,7 @@ making-stored {T} start top top' old taken new free free' at parent prefix h =
         empty = free_stays;
         apart = h.spare.apart;
         few = elim (cases_eq (length free') 0) [
-          inl none ↦ omega (arith, counts.0, counts.1, h.count, h.spare.count, few-taken new (parent_from new) _ linked)
+          | inl none ↦ omega (arith, counts.0, counts.1, h.count, h.spare.count, few-taken new (parent_from new) _ linked)
           | inr some ↦ omega (arith, counts.1, h.spare.few (omega arith))
         ];
       };
@@ -239,13 +241,14 @@ making-registers {T} start top top' old taken new free free' at parent prefix h 
     absent k four e =
         h.stored.linked.none parent (shorter prefix) (prefix.number % 16) k (omega arith) h.above h.absent
         (ap prefix_in (sym (h.same k)) ∙ e ∙ ap Some (prefix_ext (whole prefix.number) prefix (sym four) refl ∙ sym (longer-shorter prefix h.shape.least)))
+
     by_digits : register_among start (kept_from (slice_set taken at (Some (record { prefix = prefix; parent = parent; content = new_content start prefix.digits })))) m ≡ register_among start (kept_from taken) m
     by_digits = elim (cases_eq prefix.digits 4) [
-      inl four ↦ leaf-made start prefix.number taken at (Some (record { prefix = prefix; parent = parent; content = new_content start prefix.digits })) h.spare.here
-        (leaf-absent prefix.number taken (λ k. subst IsFormed (sym (h.same k)) (h.stored.formed k)) (λ k. absent k four))
-        h.spare.vacant (ap (λ b. kept_in_content prefix.number (content_by start b)) (eq-eqb prefix.digits 4 four)) m
+      | inl four ↦ leaf-made start prefix.number taken at (Some (record { prefix = prefix; parent = parent; content = new_content start prefix.digits })) h.spare.here
+          (leaf-absent prefix.number taken (λ k. subst IsFormed (sym (h.same k)) (h.stored.formed k)) (λ k. absent k four))
+          h.spare.vacant (ap (λ b. kept_in_content prefix.number (content_by start b)) (eq-eqb prefix.digits 4 four)) m
       | inr ne ↦ ap (λ ks. register_among start ks m) (kept-same taken at (Some (record { prefix = prefix; parent = parent; content = new_content start prefix.digits }))
-        (ap (λ b. kept_in_content prefix.number (content_by start b)) (ne_eqb prefix.digits 4 ne) ∙ ap kept_in (sym h.spare.vacant)))
+          (ap (λ b. kept_in_content prefix.number (content_by start b)) (ne_eqb prefix.digits 4 ne) ∙ ap kept_in (sym h.spare.vacant)))
     ]
 
 -- ---- a node goes
@@ -281,13 +284,14 @@ pub going-put : {T : Type 0} (is_initial : T → Bool) (top top' : List (Option 
 going-put {T} is_initial top top' old new free free' at node h =
     let P : List (Option (Node T)) → Type 0 = λ xs. IsPut old xs at None node.parent (node.prefix.number % 16) None in
     subst P (sym h.new_places) (put old old at None node.parent (shorter node.prefix) (node.prefix.number % 16) None (λ k. refl)
-      (at-within old at node.prefix (ap prefix_in h.here)) (going-above is_initial top top' old new free free' at node h) (going-apart is_initial top top' old new free free' at node h))
+    (at-within old at node.prefix (ap prefix_in h.here)) (going-above is_initial top top' old new free free' at node h) (going-apart is_initial top top' old new free free' at node h))
 
 pub going-count : {T : Type 0} (is_initial : T → Bool) (top top' : List (Option ℕ)) (old new : List (Option (Node T))) (free free' : List ℕ) (at : ℕ) (node : Node T)
     → IsGoing is_initial top top' old new free free' at node → (taken_count new + 1 ≡ taken_count old) × (length new ≡ length old)
-going-count is_initial top top' old new free free' at node h =
-    (ap (λ n. n + 1) (ap taken_count h.new_places ∙ count-with_child node.parent (node.prefix.number % 16) None (slice_set old at None)) ∙ count-left old at node h.here,
-      ap length h.new_places ∙ length-with_child node.parent (node.prefix.number % 16) None (slice_set old at None) ∙ length-set old at None)
+going-count is_initial top top' old new free free' at node h = (
+  ap (λ n. n + 1) (ap taken_count h.new_places ∙ count-with_child node.parent (node.prefix.number % 16) None (slice_set old at None)) ∙ count-left old at node h.here,
+  ap length h.new_places ∙ length-with_child node.parent (node.prefix.number % 16) None (slice_set old at None) ∙ length-set old at None,
+)
 
 all_none : (children : List (Option ℕ)) (d : ℕ) → list_all is_none children ≡ true → slice_index_or children d None ≡ None
 all_none [] d e = refl
@@ -313,15 +317,15 @@ going-counted : {T : Type 0} (old new : List (Option (Node T))) (free free' : Li
 going-counted old new free free' at h e within taken count len none = record {
   count = omega (arith, h.count, grown);
   within = λ k less. elim (cases_eq k (length free)) [
-    inl last ↦ omega (arith, at_last k last)
+    | inl last ↦ omega (arith, at_last k last)
     | inr ne ↦ omega (arith, before k (omega (arith, grown)), h.within k (omega (arith, grown)))
   ];
   empty = λ k less. elim (cases_eq k (length free)) [
-    inl last ↦ none _ (inl (at_last k last))
+    | inl last ↦ none _ (inl (at_last k last))
     | inr ne ↦ none _ (inr (ap (node_at old) (before k (omega (arith, grown))) ∙ h.empty k (omega (arith, grown))))
   ];
   apart = λ k l less small same. elim (cases_eq l (length free)) [
-    inl last ↦ taken _ (h.empty k (omega arith)) (sym (before k (omega arith)) ∙ same ∙ at_last l last)
+    | inl last ↦ taken _ (h.empty k (omega arith)) (sym (before k (omega arith)) ∙ same ∙ at_last l last)
     | inr ne ↦ h.apart k l less (omega (arith, grown)) (sym (before k (omega (arith, grown))) ∙ same ∙ before l (omega (arith, grown)))
   ];
   few = omega (arith, h.few);
@@ -329,8 +333,10 @@ going-counted old new free free' at h e within taken count len none = record {
   where
     grown : length free' ≡ length free + 1
     grown = ap length e ∙ length-append free (at ∷ [])
+
     before : (k : ℕ) → k < length free → slice_index_or free' k 0 ≡ slice_index_or free k 0
     before k less = ap (λ xs. slice_index_or xs k 0) e ∙ get_or-append free (at ∷ []) 0 k less
+
     at_last : (k : ℕ) → k ≡ length free → slice_index_or free' k 0 ≡ at
     at_last k last = ap (λ xs. slice_index_or xs k 0) e ∙ ap (λ i. slice_index_or (free ++ at ∷ []) i 0) last ∙ get_or-append_seam free at [] 0
 
@@ -343,8 +349,8 @@ going-stored is_initial top top' old new free free' at node h =
     let here : prefix_from old at ≡ Some node.prefix = ap prefix_in h.here in
     let shape : IsPrefix node.prefix = h.stored.linked.shaped at node.prefix here in
     let linked : IsLinked (prefix_from new) (parent_from new) (child_from (top_with_child node.parent digit None top) new) =
-        gone-linked top old new at node.parent (shorter node.prefix) digit placed h.stored.linked h.stored.sixteen h.stored.formed above (omega (arith, shape.least, shape.most)) (omega arith)
-        (here ∙ ap Some (sym (longer-shorter node.prefix shape.least))) (λ d _. idle-childless is_initial (node_at old at) d h.idle) in
+    gone-linked top old new at node.parent (shorter node.prefix) digit placed h.stored.linked h.stored.sixteen h.stored.formed above (omega (arith, shape.least, shape.most)) (omega arith)
+    (here ∙ ap Some (sym (longer-shorter node.prefix shape.least))) (λ d _. idle-childless is_initial (node_at old at) d h.idle) in
     let counts = going-count is_initial top top' old new free free' at node h in
     let P : List (Option ℕ) → Type 0 = λ t. IsLinked (prefix_from new) (parent_from new) (child_from t new) in
     record {
@@ -356,6 +362,7 @@ going-stored is_initial top top' old new free free' at node h =
   where
     here_old : (k : ℕ) → node_at old k ≡ None → k ≢ at
     here_old k e same = let no : None ≡ Some node = sym e ∙ ap (node_at old) same ∙ h.here in cc
+
     placed_none : (k : ℕ) → (k ≡ at) ⊎ (node_at old k ≡ None) → node_at new k ≡ None
     placed_none k (inl same) = ap (node_at new) same ∙ (going-put is_initial top top' old new free free' at node h).here
     placed_none k (inr none) = none_by_prefix _ (put-prefix old new at None node.parent (node.prefix.number % 16) None (going-put is_initial top top' old new free free' at node h) k (here_old k none) ∙ ap prefix_in none)
@@ -364,7 +371,7 @@ pub making-stays : {T : Type 0} (start : T) (top top' : List (Option ℕ)) (old 
     → IsMaking start top top' old taken new free free' at parent prefix → (i : ℕ) (q : Prefix) → prefix_from old i ≡ Some q → prefix_from new i ≡ Some q
 making-stays start top top' old taken new free free' at parent prefix h i q e =
     put-prefix old new at (Some (new_node start parent prefix)) parent (prefix.number % 16) (Some at) (making-put start top top' old taken new free free' at parent prefix h) i
-      (λ (same : i ≡ at). (let no : None ≡ Some q = sym (ap prefix_in (making-vacant start top top' old taken new free free' at parent prefix h)) ∙ ap (prefix_from old) (sym same) ∙ e in cc))
+    (λ (same : i ≡ at). (let no : None ≡ Some q = sym (ap prefix_in (making-vacant start top top' old taken new free free' at parent prefix h)) ∙ ap (prefix_from old) (sym same) ∙ e in cc))
     ∙ e
 
 pub making-here : {T : Type 0} (start : T) (top top' : List (Option ℕ)) (old taken new : List (Option (Node T))) (free free' : List ℕ) (at : ℕ) (parent : Option ℕ) (prefix : Prefix)
@@ -391,7 +398,7 @@ unkept-initial {T} start is_initial equal r e =
     let parts = or_false (nat_lt 0 r.holders) (not (is_initial r.value)) e in
     let value : r.value ≡ start = equal r.value (not_false (is_initial r.value) parts.1) in
     let holders : r.holders ≡ 0 = elim (cases_eq r.holders 0) [
-      inl none ↦ none
+      | inl none ↦ none
       | inr some ↦ absurd (false≢true (sym parts.0 ∙ lt-ltb 0 r.holders (omega arith)))
     ] in
     let with_value : r ≡ record { value = start; holders = r.holders } = ap (λ (x : T). let q : Register T = record { value = x; holders = r.holders } in q) value in
@@ -418,7 +425,7 @@ pub going-registers : {T : Type 0} (start : T) (is_initial : T → Bool) → ((x
 going-registers start is_initial equal top top' old new free free' at node h m =
     ap (λ ks. register_among start ks m) (ap kept_from h.new_places ∙ kept-with_child node.parent (node.prefix.number % 16) None (slice_set old at None))
     ∙ going-content start is_initial equal old at node node.content h.stored.linked.one h.stored.formed h.here refl
-      (subst IsFormed h.here (h.stored.formed at)) (ap (stands_in is_initial) (sym h.here) ∙ h.idle) (ap kept_in h.here) m
+    (subst IsFormed h.here (h.stored.formed at)) (ap (stands_in is_initial) (sym h.here) ∙ h.idle) (ap kept_in h.here) m
 
 -- an empty place is added where none is free
 pub spare-appended : {T : Type 0} (old new : List (Option (Node T))) (free free' : List ℕ) (at : ℕ) → IsCounted old free → length free ≡ 0 → length free' ≡ 0
@@ -447,7 +454,7 @@ pub going-stays : {T : Type 0} (is_initial : T → Bool) (top top' : List (Optio
     → IsGoing is_initial top top' old new free free' at node → (i : ℕ) (q : Prefix) → prefix_from new i ≡ Some q → prefix_from old i ≡ Some q
 going-stays is_initial top top' old new free free' at node h i q e =
     sym (put-prefix old new at None node.parent (node.prefix.number % 16) None (going-put is_initial top top' old new free free' at node h) i
-      (λ (same : i ≡ at). (let no : None ≡ Some q = sym (ap prefix_in (going-put is_initial top top' old new free free' at node h).here) ∙ ap (prefix_from new) (sym same) ∙ e in cc)))
+    (λ (same : i ≡ at). (let no : None ≡ Some q = sym (ap prefix_in (going-put is_initial top top' old new free free' at node h).here) ∙ ap (prefix_from new) (sym same) ∙ e in cc)))
     ∙ e
 
 pub going-above-new : {T : Type 0} (is_initial : T → Bool) (top top' : List (Option ℕ)) (old new : List (Option (Node T))) (free free' : List ℕ) (at : ℕ) (node : Node T)
@@ -469,7 +476,7 @@ pub going-within : {T : Type 0} (top : List (Option ℕ)) (places : List (Option
     → IsStored top places free → node_at places at ≡ Some node → (j : ℕ) → node.parent ≡ Some j → j < length places
 going-within top places free at node h here j e =
     at-within places j (shorter node.prefix)
-      (ap (of (prefix_from places)) (sym e) ∙ ap (λ x. of (prefix_from places) (parent_in x)) (sym here) ∙ h.linked.up at node.prefix (ap prefix_in here))
+    (ap (of (prefix_from places)) (sym e) ∙ ap (λ x. of (prefix_from places) (parent_in x)) (sym here) ∙ h.linked.up at node.prefix (ap prefix_in here))
 
 -- a place that is taken isn't free
 pub free-fewer : {T : Type 0} (places : List (Option (Node T))) (free : List ℕ) (at : ℕ) (node : Node T) → IsCounted places free → node_at places at ≡ Some node → length free < length places
@@ -516,7 +523,7 @@ shrank-trans start a b c first next = record {
 pub tight-all : {T : Type 0} (is_initial : T → Bool) (places : List (Option (Node T))) (at : ℕ) → IsTightBut is_initial (Some at) places → stands_in is_initial (node_at places at) ≡ true
     → IsTightBut is_initial None places
 tight-all is_initial places at tight here i ne = elim (cases_eq i at) [
-  inl e ↦ ap (λ k. stands_in is_initial (node_at places k)) e ∙ here
+  | inl e ↦ ap (λ k. stands_in is_initial (node_at places k)) e ∙ here
   | inr other ↦ tight i (λ (e : Some i ≡ Some at). other (cc))
 ]
 

@@ -28,6 +28,6 @@ pub record IsLinked (pre : ℕ → Option Prefix) (parent : ℕ → Option ℕ) 
   pub one : (i j : ℕ) (p : Prefix) → pre i ≡ Some p → pre j ≡ Some p → i ≡ j
   pub up : (i : ℕ) (p : Prefix) → pre i ≡ Some p → of pre (parent i) ≡ Some (shorter p)
   pub some : (j : Option ℕ) (p : Prefix) (digit i : ℕ) → digit < 16 → of pre j ≡ Some p → child j digit ≡ Some i
-    → pre i ≡ Some (longer p digit)
+      → pre i ≡ Some (longer p digit)
   pub none : (j : Option ℕ) (p : Prefix) (digit i : ℕ) → digit < 16 → of pre j ≡ Some p → child j digit ≡ None
-    → pre i ≡ Some (longer p digit) → ⊥
+      → pre i ≡ Some (longer p digit) → ⊥

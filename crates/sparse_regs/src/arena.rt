@@ -69,8 +69,7 @@ impl<T: Slot> Arena<T> {
         ensures room { OnOk result (HasRoom 4 self.new) }
     {
         self.places.reserve(4)?;
-        self.free
-            .reserve(self.places.len() - self.free.len() + 4)?;
+        self.free.reserve(self.places.len() - self.free.len() + 4)?;
         Ok(())
     }
 
@@ -179,11 +178,7 @@ impl<T: Slot> Arena<T> {
         ensures shrank { Shrank T.start self.old self.new }
         ensures tight { IsTightBut T.is_initial (Some at) self.old.places.items → IsTightBut T.is_initial result self.new.places.items }
     {
-        let Node {
-            prefix,
-            parent,
-            ..
-        } = places::vacate(&mut self.places, at as usize);
+        let Node { prefix, parent, .. } = places::vacate(&mut self.places, at as usize);
         self.free.push_reserved(at);
         self.link(parent, prefix.last_digit(), None);
         parent

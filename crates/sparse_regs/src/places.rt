@@ -60,10 +60,12 @@ pub fn leaf_at<T>(places: &[Option<Node<T>>], at: usize) -> Option<&Register<T>>
     ensures { option_copied result ≡ leaf_in (node_at places.now at) }
 {
     match node_at(places, at) {
-        Some(Node {
-            content: Content::Leaf(register),
-            ..
-        }) => Some(register),
+        Some(
+            Node {
+                content: Content::Leaf(register),
+                ..
+            },
+        ) => Some(register),
         _ => None,
     }
 }

@@ -11,6 +11,6 @@ loop-digit-init g c = record { path = c.as_slice-digits.ensures.value ∙ c.path
 pub returns-in_err-child-clause-none : goal.returns-in_err-child-clause-none
 returns-in_err-child-clause-none g c =
     if_none _ _ (way-ends (prefix_from c.args.self.now.places.items) (parent_from c.args.self.now.places.items) (child_from c.args.self.now.top c.args.self.now.places.items) c.requires.stored.linked
-      c.args.number c.loop-digit.digit-index (slice_index_or c.as_slice-digits.result.now c.loop-digit.digit-index 0) c.loop-digit.node
-      (omega (arith, ap length c.loop-digit.invariant.path)) (omega arith) (ap (λ xs. slice_index_or xs c.loop-digit.digit-index 0) c.loop-digit.invariant.path)
-      c.loop-digit.invariant.above (sym c.child.ensures ∙ c.in_err-child.was))
+    c.args.number c.loop-digit.digit-index (slice_index_or c.as_slice-digits.result.now c.loop-digit.digit-index 0) c.loop-digit.node
+    (omega (arith, ap length c.loop-digit.invariant.path)) (omega arith) (ap (λ xs. slice_index_or xs c.loop-digit.digit-index 0) c.loop-digit.invariant.path)
+    c.loop-digit.invariant.above (sym c.child.ensures ∙ c.in_err-child.was))

@@ -11,5 +11,10 @@ returns-clause-taken g c =
 
 pub returns-clause-prefixes : goal.returns-clause-prefixes
 returns-clause-prefixes g c numbers lists =
-    omega (arith, c.requires.linked.stored.counted.count, c.args.self.now.places.ok, c.args.self.now.free.ok,
-      nodes-counted g.T.Slot.start g.T.Slot.is_initial c.args.self.now.top c.args.self.now.places.items c.args.self.now.free.items c.requires.linked.stored c.requires.tight g.met.T.Slot.start_is_initial numbers lists)
+    omega (
+      arith,
+      c.requires.linked.stored.counted.count,
+      c.args.self.now.places.ok,
+      c.args.self.now.free.ok,
+      nodes-counted g.T.Slot.start g.T.Slot.is_initial c.args.self.now.top c.args.self.now.places.items c.args.self.now.free.items c.requires.linked.stored c.requires.tight g.met.T.Slot.start_is_initial numbers lists,
+    )

@@ -21,5 +21,5 @@ pub returns-then-stands-clause-tree : goal.returns-then-stands-clause-tree
 returns-then-stands-clause-tree g c = record {
   linked = c.climbing.invariant.arena;
   tight = tight-all g.T.Slot.is_initial c.climbing.self.places.items c.in-Some.at (rw c.in-Some.is at c.climbing.invariant.tight)
-    (ap (λ xs. stands_in g.T.Slot.is_initial (node_at xs c.in-Some.at)) (sym c.deref.ensures.value) ∙ sym c.stands.ensures ∙ c.if-stands.true);
+      (ap (λ xs. stands_in g.T.Slot.is_initial (node_at xs c.in-Some.at)) (sym c.deref.ensures.value) ∙ sym c.stands.ensures ∙ c.if-stands.true);
 }

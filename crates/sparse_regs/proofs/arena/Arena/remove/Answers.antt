@@ -57,7 +57,7 @@ returns-clause-shrank g c =
     record {
       stays = going-stays g.T.Slot.is_initial c.args.self.now.top c.link.new.self.top c.args.self.now.places.items c.link.new.self.places.items c.args.self.now.free.items c.link.new.self.free.items c.args.at c.vacate-parent.result going;
       registers = going-registers g.T.Slot.start g.T.Slot.is_initial (λ x e. g.met.T.Slot.same_is_equal x g.T.Slot.start (sym (g.met.T.Slot.initial_is_same x) ∙ e))
-        c.args.self.now.top c.link.new.self.top c.args.self.now.places.items c.link.new.self.places.items c.args.self.now.free.items c.link.new.self.free.items c.args.at c.vacate-parent.result going;
+          c.args.self.now.top c.link.new.self.top c.args.self.now.places.items c.link.new.self.places.items c.args.self.now.free.items c.link.new.self.free.items c.args.at c.vacate-parent.result going;
       slots = (going-count g.T.Slot.is_initial c.args.self.now.top c.link.new.self.top c.args.self.now.places.items c.link.new.self.places.items c.args.self.now.free.items c.link.new.self.free.items c.args.at c.vacate-parent.result going).1;
     }
 

@@ -6,7 +6,7 @@ use Rattle.sparse_regs.proofs.arena.Arena.replace.Goals as goal
 pub returns-clause-indices : goal.returns-clause-indices
 returns-clause-indices g c =
     shrank-indices g.T.Slot.start c.args.self.now.places.items c.replace_value-old.new.self c.prune.new.self (parent_from c.args.self.now.places.items) (child_from c.args.self.now.top c.args.self.now.places.items)
-      c.requires.tree.linked.stored.linked c.replace_value-old.ensures.same c.prune.ensures.shrank
+    c.requires.tree.linked.stored.linked c.replace_value-old.ensures.same c.prune.ensures.shrank
 
 pub returns-clause-slots : goal.returns-clause-slots
 returns-clause-slots g c = shrank-slots g.T.Slot.start c.args.self.now.places.items c.replace_value-old.new.self c.prune.new.self c.replace_value-old.ensures.same c.prune.ensures.shrank

@@ -11,9 +11,9 @@ pub returns-clause-tree : goal.returns-clause-tree
 returns-clause-tree g c = record {
   linked = c.resize_value.ensures.arena;
   tight = tight-all g.T.Slot.is_initial c.resize_value.new.self.places.items c.leaf-leaf.result c.resize_value.ensures.tight
-    (known-stands g.T.Slot.start g.T.Slot.is_initial c.resize_value.new.self.top c.resize_value.new.self.places.items c.resize_value.new.self.free.items c.leaf-leaf.result c.args.number c.resize_value.ensures.arena.stored
-        (c.resize_value.ensures.same.prefixes c.leaf-leaf.result ∙ c.leaf-leaf.ensures)
+      (known-stands g.T.Slot.start g.T.Slot.is_initial c.resize_value.new.self.top c.resize_value.new.self.places.items c.resize_value.new.self.free.items c.leaf-leaf.result c.args.number c.resize_value.ensures.arena.stored
+      (c.resize_value.ensures.same.prefixes c.leaf-leaf.result ∙ c.leaf-leaf.ensures)
       ∙ resized-stands-too g.T.Slot.is_initial c.args.number (g.T.Slot.resized c.args.part c.args.value) (register_among g.T.Slot.start (kept_from c.args.self.now.places.items) c.args.number)
-        (register_among g.T.Slot.start (kept_from c.resize_value.new.self.places.items) c.args.number) (register_among g.T.Slot.start (kept_from c.args.self.now.places.items)) (rw (to_z-of_z w32 c.args.value c.ranges.value) at (c.resize_value.ensures.changed c.args.number))
-        (g.met.T.Slot.resized_is_initial c.args.part c.args.value _) c.requires.kept);
+      (register_among g.T.Slot.start (kept_from c.resize_value.new.self.places.items) c.args.number) (register_among g.T.Slot.start (kept_from c.args.self.now.places.items)) (rw (to_z-of_z w32 c.args.value c.ranges.value) at (c.resize_value.ensures.changed c.args.number))
+      (g.met.T.Slot.resized_is_initial c.args.part c.args.value _) c.requires.kept);
 }
