@@ -14,8 +14,9 @@ use steps::Steps;
 struct Number(u32);
 
 impl Slot for Number {
-    ghost use Rattle.std.specs.Prelude.{◌==◌, refl};
+    ghost use Rattle.std.specs.Prelude.{◌==◌, refl, ℕ};
     ghost use Rattle.std.proofs.Common.{ap};
+    ghost use Rattle.sparse_regs.specs.declared.tests.Number.{Number as TheNumber};
     ghost use Rattle.std.proofs.lemmas.Bool.{eqb-true};
     ghost use Rattle.std.proofs.lemmas.Cmp.{nat_eq_equiv};
 
@@ -45,7 +46,7 @@ impl Slot for Number {
 
     ghost same_is_symmetric = { λ x y. nat_eq_equiv.symm x.0 y.0 };
 
-    ghost same_is_equal = { λ x y h. Prim.cc (eqb-true x.0 y.0 h) };
+    ghost same_is_equal = { λ x y h. ap (λ (n : ℕ). let number : TheNumber = record { 0 = n } in number) (eqb-true x.0 y.0 h) };
 
     ghost initial_is_same = { λ x. refl };
 
