@@ -2,3 +2,4 @@ mod Within
 mod Counts
 mod Steps
 mod Results
+pub mod Telling

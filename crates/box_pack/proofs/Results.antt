@@ -7,10 +7,11 @@ use Rattle.nodes.specs.declared.node.Node.{Node}
 use Rattle.nodes.specs.PackingMeasure.{nesting_of, count_of}
 use Rattle.box_pack.specs.declared.extent.Extent.{Extent}
 use Rattle.box_pack.specs.declared.goal.Goal.{Goal}
-use Rattle.box_pack.specs.declared.limits.Measure.{Measure}
+use Rattle.box_pack.specs.declared.horizontal.Sums as horizontal
+use Rattle.box_pack.specs.declared.vertical.Sums as vertical
 use Rattle.box_pack.specs.declared.limits.Plan.{Plan}
 use Rattle.box_pack.specs.declared.packed.Packed.{Packed}
-use Rattle.box_pack.specs.PackingLimits.{is_too_deep, is_too_long, is_too_large, is_large, measured, limited, limited_extent, plan_for}
+use Rattle.box_pack.specs.PackingLimits.{is_too_deep, is_too_long, is_too_large, is_large, if_measured, box_measure, limited, limited_extent, plan_for}
 use Rattle.box_pack.specs.PackingHorizontal.{natural_width}
 use Rattle.box_pack.specs.PackingVertical.{height_within}
 use Rattle.box_pack.specs.declared.fit.Fit.{Fit}
@@ -18,18 +19,37 @@ use Rattle.box_pack.specs.declared.flexibility.GlueTotals.{GlueTotals}
 use Rattle.box_pack.specs.Fits.{fit_of}
 use Rattle.box_pack.specs.PackingSetting.{setting_of}
 use Rattle.box_pack.specs.PackingBoxes.{is_empty, setting, size_for, packed_over, within_limits, hbox_extent, hbox, hpacked, vbox_extent, vbox, vpacked, moved_extent, moved_to, with_extent}
-use Rattle.box_pack.specs.HorizontalSizes.{horizontal_sizes, horizontal_plan}
-use Rattle.box_pack.specs.VerticalSizes.{vertical_sizes, vertical_plan}
+use Rattle.box_pack.specs.HorizontalSizes.{horizontal_sizes, horizontal_sums, horizontal_plan}
+use Rattle.box_pack.specs.VerticalSizes.{vertical_sizes, vertical_sums, vertical_plan}
 
 -- a list that is neither too deep nor too long
-chosen : (deep long large : Bool) (measure told : Measure) (packed : Packed) →
-    (if deep then Err (Capacity BoxNesting) else (if long then Err (Capacity Items) else Ok measure)) ≡ Ok told →
+chosen : {A : Type 0} (deep long large : Bool) (a b : A) (packed : Packed) →
+    (if deep then Err (Capacity BoxNesting) else (if long then Err (Capacity Items) else Ok a)) ≡ Ok b →
     (if deep then Err (Capacity BoxNesting) else
     (if long then Err (Capacity Items) else (if large then Err (Capacity BoxSize) else Ok packed)))
     ≡ (if large then Err (Capacity BoxSize) else Ok packed)
-chosen true long large measure told packed is = cc
-chosen false true large measure told packed is = cc
-chosen false false large measure told packed is = refl
+chosen true long large a b packed is = cc
+chosen false true large a b packed is = cc
+chosen false false large a b packed is = refl
+
+given : {A : Type 0} (deep long : Bool) (a b : A) →
+    (if deep then Err (Capacity BoxNesting) else (if long then Err (Capacity Items) else Ok a)) ≡ Ok b → a ≡ b
+given true long a b is = cc
+given false true a b is = cc
+given false false a b is = cc
+
+refused : {A : Type 0} (deep long large : Bool) (a : A) (packed : Packed) (stop : Stop) →
+    (if deep then Err (Capacity BoxNesting) else (if long then Err (Capacity Items) else Ok a)) ≡ Err stop →
+    (if deep then Err (Capacity BoxNesting) else
+    (if long then Err (Capacity Items) else (if large then Err (Capacity BoxSize) else Ok packed)))
+    ≡ Err stop
+refused true long large a packed stop is = cc
+refused false true large a packed stop is = cc
+refused false false large a packed stop is = cc
+
+-- what is made of such a list
+pub if_measured-is : {A : Type 0} (list : List Node) (a b : A) → if_measured list a ≡ Ok b → a ≡ b
+if_measured-is list a b is = given (is_too_deep list) (is_too_long list) a b is
 
 failed : (large : Bool) (plan : Plan) (packed : Packed) (stop : Stop) →
     (if large then Err (Capacity BoxSize) else Ok plan) ≡ Err stop →
@@ -46,49 +66,77 @@ fitting false meant plan packed is = cc
 abbrev made : Extent → ℤ → Plan
 made extent excess = record { extent = extent; excess = excess }
 
-abbrev measure_of : List Node → Measure
-measure_of list = record { nesting = 1 + nesting_of list; count = count_of list }
+abbrev pub horizontal_sums_of : List Node → horizontal.Sums
+horizontal_sums_of list = record { measure = box_measure list; sizes = horizontal_sizes list }
 
-too_large_for : (list : List Node) (told : Measure) (natural size : ℤ) (extent : Extent) (packed : Packed) (stop : Stop) →
-    measured list ≡ Ok told → plan_for natural size extent ≡ Err stop →
+abbrev pub vertical_sums_of : List Node → vertical.Sums
+vertical_sums_of list = record { measure = box_measure list; sizes = vertical_sizes list }
+
+pub horizontal_sums-are : (list : List Node) (sums : horizontal.Sums) → horizontal_sums list ≡ Ok sums →
+    horizontal_sums_of list ≡ sums
+horizontal_sums-are list sums is = if_measured-is list (horizontal_sums_of list) sums is
+
+pub vertical_sums-are : (list : List Node) (sums : vertical.Sums) → vertical_sums list ≡ Ok sums →
+    vertical_sums_of list ≡ sums
+vertical_sums-are list sums is = if_measured-is list (vertical_sums_of list) sums is
+
+too_large_for : {A : Type 0} (list : List Node) (a b : A) (natural size : ℤ) (extent : Extent) (packed : Packed) (stop : Stop) →
+    if_measured list a ≡ Ok b → plan_for natural size extent ≡ Err stop →
     within_limits list natural extent packed ≡ Err stop
-too_large_for list told natural size extent packed stop measure plan =
-    chosen (is_too_deep list) (is_too_long list) (is_too_large natural || is_large extent) (measure_of list) told packed measure
+too_large_for list a b natural size extent packed stop measure plan =
+    chosen (is_too_deep list) (is_too_long list) (is_too_large natural || is_large extent) a b packed measure
     ∙ failed (is_too_large natural || is_large extent) (made extent (size -ℤ natural)) packed stop plan
 
-fits_in : (list : List Node) (told : Measure) (natural size : ℤ) (extent : Extent) (packed : Plan → Packed) (plan : Plan) →
-    measured list ≡ Ok told → plan_for natural size extent ≡ Ok plan →
+fits_in : {A : Type 0} (list : List Node) (a b : A) (natural size : ℤ) (extent : Extent) (packed : Plan → Packed) (plan : Plan) →
+    if_measured list a ≡ Ok b → plan_for natural size extent ≡ Ok plan →
     within_limits list natural extent (packed (made extent (size -ℤ natural))) ≡ Ok (packed plan)
-fits_in list told natural size extent packed plan measure is =
-    chosen (is_too_deep list) (is_too_long list) (is_too_large natural || is_large extent) (measure_of list) told
+fits_in list a b natural size extent packed plan measure is =
+    chosen (is_too_deep list) (is_too_long list) (is_too_large natural || is_large extent) a b
     (packed (made extent (size -ℤ natural))) measure
     ∙ fitting (is_too_large natural || is_large extent) (made extent (size -ℤ natural)) plan packed is
 
-pub hpacked-stops : (list : List Node) (goal : Goal) (told : Measure) (stop : Stop) → measured list ≡ Ok told →
-    horizontal_plan goal (horizontal_sizes list) ≡ Err stop → hpacked list goal ≡ Err stop
-hpacked-stops list goal told stop measure plan =
-    too_large_for list told (natural_width list) (size_for goal (natural_width list)) (hbox_extent list goal) (hbox list goal) stop
-    measure plan
+pub hpacked-refused : (list : List Node) (goal : Goal) (stop : Stop) → horizontal_sums list ≡ Err stop →
+    hpacked list goal ≡ Err stop
+hpacked-refused list goal stop is =
+    refused (is_too_deep list) (is_too_long list) (is_too_large (natural_width list) || is_large (hbox_extent list goal))
+    (horizontal_sums_of list) (hbox list goal) stop is
 
-pub hpacked-fits : (list : List Node) (goal : Goal) (told : Measure) (plan : Plan) → measured list ≡ Ok told →
-    horizontal_plan goal (horizontal_sizes list) ≡ Ok plan →
+pub hpacked-stops : (list : List Node) (goal : Goal) (sums : horizontal.Sums) (stop : Stop) → horizontal_sums list ≡ Ok sums →
+    horizontal_plan goal sums.sizes ≡ Err stop → hpacked list goal ≡ Err stop
+hpacked-stops list goal sums stop is plan =
+    too_large_for list (horizontal_sums_of list) sums (natural_width list) (size_for goal (natural_width list))
+    (hbox_extent list goal) (hbox list goal) stop is
+    (ap (λ (s : horizontal.Sums). horizontal_plan goal s.sizes) (horizontal_sums-are list sums is) ∙ plan)
+
+pub hpacked-fits : (list : List Node) (goal : Goal) (sums : horizontal.Sums) (plan : Plan) → horizontal_sums list ≡ Ok sums →
+    horizontal_plan goal sums.sizes ≡ Ok plan →
     hpacked list goal ≡ Ok (packed_over list false plan.extent plan.excess)
-hpacked-fits list goal told plan measure is =
-    fits_in list told (natural_width list) (size_for goal (natural_width list)) (hbox_extent list goal)
-    (λ p. packed_over list false p.extent p.excess) plan measure is
+hpacked-fits list goal sums plan is planned =
+    fits_in list (horizontal_sums_of list) sums (natural_width list) (size_for goal (natural_width list)) (hbox_extent list goal)
+    (λ p. packed_over list false p.extent p.excess) plan is
+    (ap (λ (s : horizontal.Sums). horizontal_plan goal s.sizes) (horizontal_sums-are list sums is) ∙ planned)
 
-pub vpacked-stops : (list : List Node) (goal : Goal) (bound : ℤ) (told : Measure) (stop : Stop) → measured list ≡ Ok told →
-    vertical_plan goal bound (vertical_sizes list) ≡ Err stop → vpacked list goal bound ≡ Err stop
-vpacked-stops list goal bound told stop measure plan =
-    too_large_for list told (height_within bound list) (size_for goal (height_within bound list)) (vbox_extent list goal bound)
-    (vbox list goal bound) stop measure plan
+pub vpacked-refused : (list : List Node) (goal : Goal) (bound : ℤ) (stop : Stop) → vertical_sums list ≡ Err stop →
+    vpacked list goal bound ≡ Err stop
+vpacked-refused list goal bound stop is =
+    refused (is_too_deep list) (is_too_long list)
+    (is_too_large (height_within bound list) || is_large (vbox_extent list goal bound))
+    (vertical_sums_of list) (vbox list goal bound) stop is
 
-pub vpacked-fits : (list : List Node) (goal : Goal) (bound : ℤ) (told : Measure) (plan : Plan) → measured list ≡ Ok told →
-    vertical_plan goal bound (vertical_sizes list) ≡ Ok plan →
+pub vpacked-stops : (list : List Node) (goal : Goal) (bound : ℤ) (sums : vertical.Sums) (stop : Stop) →
+    vertical_sums list ≡ Ok sums → vertical_plan goal bound sums.sizes ≡ Err stop → vpacked list goal bound ≡ Err stop
+vpacked-stops list goal bound sums stop is plan =
+    too_large_for list (vertical_sums_of list) sums (height_within bound list) (size_for goal (height_within bound list))
+    (vbox_extent list goal bound) (vbox list goal bound) stop is
+    (ap (λ (s : vertical.Sums). vertical_plan goal bound s.sizes) (vertical_sums-are list sums is) ∙ plan)
+
+pub vpacked-fits : (list : List Node) (goal : Goal) (bound : ℤ) (sums : vertical.Sums) (plan : Plan) →
+    vertical_sums list ≡ Ok sums → vertical_plan goal bound sums.sizes ≡ Ok plan →
     vpacked list goal bound ≡ Ok (packed_over list true plan.extent plan.excess)
-vpacked-fits list goal bound told plan measure is =
-    fits_in list told (height_within bound list) (size_for goal (height_within bound list)) (vbox_extent list goal bound)
-    (λ p. packed_over list true p.extent p.excess) plan measure is
+vpacked-fits list goal bound sums plan is planned =
+    fits_in list (vertical_sums_of list) sums (height_within bound list) (size_for goal (height_within bound list))
+    (vbox_extent list goal bound) (λ p. packed_over list true p.extent p.excess) plan is
+    (ap (λ (s : vertical.Sums). vertical_plan goal bound s.sizes) (vertical_sums-are list sums is) ∙ planned)
 
 -- ---- sizes and excess
 

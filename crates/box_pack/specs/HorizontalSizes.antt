@@ -6,8 +6,9 @@ use Rattle.nodes.specs.declared.node.Node.{Node}
 use Rattle.tokens.specs.declared.stop.Stop.{Stop}
 use Rattle.box_pack.specs.declared.goal.Goal.{Goal}
 use Rattle.box_pack.specs.declared.horizontal.Sizes.{Sizes}
+use Rattle.box_pack.specs.declared.horizontal.Sums.{Sums}
 use Rattle.box_pack.specs.declared.limits.Plan.{Plan}
-use Rattle.box_pack.specs.PackingLimits.{plan_for}
+use Rattle.box_pack.specs.PackingLimits.{if_measured, box_measure, plan_for}
 use Rattle.box_pack.specs.PackingBoxes.{size_for}
 use Rattle.box_pack.specs.PackingHorizontal.{Reach, reach_of, natural_width, natural_height, natural_depth}
 use Rattle.box_pack.specs.PackingFlexibility.{glue_of}
@@ -34,6 +35,10 @@ horizontal_sizes list = record {
   depth = natural_depth list;
   glue = glue_totals list;
 }
+
+-- what is summed up over a list that is neither too deep nor too long
+abbrev pub horizontal_sums : List Node → Result Sums Stop
+horizontal_sums list = if_measured list (record { measure = box_measure list; sizes = horizontal_sizes list })
 
 -- sums haven't gone beyond a bound, and maxima aren't negative
 pub record AreWithin (bound : ℕ) (sizes : Sizes) : Type 0 where

@@ -7,6 +7,8 @@ pub mod PackingSetting
 pub mod PackingReports
 pub mod PackingLimits
 pub mod PackingBoxes
+pub mod PackingTells
+pub mod MeasureSums
 pub mod GlueSums
 pub mod HorizontalSizes
 pub mod VerticalSizes

@@ -8,7 +8,7 @@ use Rattle.tokens.specs.declared.stop.Stop.TheVariants.{Capacity}
 use Rattle.nodes.specs.declared.node.Node.{Node}
 use Rattle.nodes.specs.PackingMeasure.{nesting_of, count_of}
 use Rattle.box_pack.specs.declared.extent.Extent.{Extent}
-use Rattle.box_pack.specs.declared.limits.Measure.{Measure}
+use Rattle.box_pack.specs.declared.measuring.Measure.{Measure}
 use Rattle.box_pack.specs.declared.limits.Plan.{Plan}
 
 -- a box is nested 1 deeper than its list, and at most 500 deep
@@ -23,12 +23,19 @@ is_too_long list = nat_lt 16777215 (count_of list)
 abbrev pub is_too_large : ℤ → Bool
 is_too_large size = nat_lt 1073741823 (unsigned_abs size)
 
--- what a box over a list tells of itself, or the limit that the list passes
-abbrev pub measured : List Node → Result Measure Stop
-measured list =
+-- what is made of a list that is neither too deep nor too long; of two limits that are passed the first is told
+abbrev pub if_measured : {A : Type 0} → List Node → A → Result A Stop
+if_measured list a =
     if is_too_deep list then Err (Capacity BoxNesting) else
-    (if is_too_long list then Err (Capacity Items) else
-    Ok (record { nesting = 1 + nesting_of list; count = count_of list }))
+    (if is_too_long list then Err (Capacity Items) else Ok a)
+
+-- the limit that a list which is too long passes first
+abbrev pub first_passed : List Node → Stop
+first_passed list = if is_too_deep list then Capacity BoxNesting else Capacity Items
+
+-- what a box over a list tells of itself
+abbrev pub box_measure : List Node → Measure
+box_measure list = record { nesting = 1 + nesting_of list; count = count_of list }
 
 -- a size, if it is within its limit
 abbrev pub limited : ℤ → Result ℤ Stop

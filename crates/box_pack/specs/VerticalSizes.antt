@@ -7,7 +7,8 @@ use Rattle.tokens.specs.declared.stop.Stop.{Stop}
 use Rattle.box_pack.specs.declared.goal.Goal.{Goal}
 use Rattle.box_pack.specs.declared.limits.Plan.{Plan}
 use Rattle.box_pack.specs.declared.vertical.Sizes.{Sizes}
-use Rattle.box_pack.specs.PackingLimits.{plan_for}
+use Rattle.box_pack.specs.declared.vertical.Sums.{Sums}
+use Rattle.box_pack.specs.PackingLimits.{if_measured, box_measure, plan_for}
 use Rattle.box_pack.specs.PackingBoxes.{size_for}
 use Rattle.box_pack.specs.PackingVertical.{Drop, drop_of, length_of, width_of, hanging_of}
 use Rattle.box_pack.specs.PackingFlexibility.{glue_of}
@@ -34,6 +35,10 @@ vertical_sizes list = record {
   hanging = hanging_of list;
   glue = glue_totals list;
 }
+
+-- what is summed up over a list that is neither too deep nor too long
+abbrev pub vertical_sums : List Node → Result Sums Stop
+vertical_sums list = if_measured list (record { measure = box_measure list; sizes = vertical_sizes list })
 
 -- sums haven't gone beyond a bound, what hangs is a number of 32 bits, and the width isn't negative
 pub record AreWithin (bound : ℕ) (sizes : Sizes) : Type 0 where

@@ -1,16 +1,17 @@
 //! Hboxes (`tex.web`, sections 649 to 657).
 
-ghost use Rattle.std.specs.Prelude.{◌≡◌, ◌≤◌, ◌+◌, ◌+ℤ◌, ◌-ℤ◌, ◌^◌, ℕ, Some, IfOk, length};
+ghost use Rattle.std.specs.Prelude.{◌≡◌, ◌+◌, ◌+ℤ◌, ◌-ℤ◌, ◌^◌, ℕ, Some, IfOk};
 ghost use Rattle.box_pack.specs.PackingHorizontal.{reaching, wide_as};
 ghost use Rattle.box_pack.specs.PackingExtents.{leaders_extent};
 ghost use Rattle.box_pack.specs.PackingBoxes.{hpacked};
 ghost use Rattle.box_pack.specs.GlueSums.{IsWithin, BothWithin, glue_with};
-ghost use Rattle.box_pack.specs.HorizontalSizes.{AreWithin, horizontal_sizes, horizontal_plan, with_node, with_reach};
+ghost use Rattle.box_pack.specs.HorizontalSizes.{AreWithin, horizontal_sums, horizontal_plan, with_node, with_reach};
 
 use crate::extent::Extent;
 use crate::flexibility::GlueTotals;
 use crate::goal::Goal;
-use crate::limits::{Plan, excess, limited, limited_extent, measured};
+use crate::limits::{Plan, excess, limited, limited_extent};
+use crate::measuring::{Measure, first_passed};
 use crate::packed::Packed;
 use crate::sums::{greater, plus};
 use nodes::{BoxNode, Node, SkipNode};
@@ -22,10 +23,9 @@ use tokens::Stop;
 pub fn hpack(list: Vec<Node>, goal: Goal) -> Result<Packed, Stop>
     ensures { result ≡ hpacked list.items goal }
 {
-    let measure = measured(list.as_slice())?;
-    let sizes = sizes_of(list.as_slice());
-    let plan = sizes.plan(goal)?;
-    Ok(Packed::new(list, false, plan, measure, &sizes.glue))
+    let sums = sums_of(list.as_slice())?;
+    let plan = sums.sizes.plan(goal)?;
+    Ok(Packed::new(list, false, plan, sums.measure, &sums.sizes.glue))
 }
 
 /// The natural sizes of an hbox, and what its glue can do.
@@ -37,12 +37,23 @@ pub(crate) struct Sizes {
     glue: GlueTotals,
 }
 
-/// The sizes of a list, in one pass.
-fn sizes_of(list: &[Node]) -> Sizes
-    requires { length list.now ≤ 16777215 }
-    ensures value { result ≡ horizontal_sizes list.now }
-    ensures range { BothWithin (2 ^ 61) result.glue }
+/// What is summed up over a list.
+#[derive(Clone, Copy)]
+pub(crate) struct Sums {
+    /// That of a box over the list.
+    measure: Measure,
+    sizes: Sizes,
+}
+
+/// The sums of a list whose measure is within its limits, in one pass.
+fn sums_of(list: &[Node]) -> Result<Sums, Stop>
+    ensures value { result ≡ horizontal_sums list.now }
+    ensures range { IfOk result (λ sums. BothWithin (2 ^ 61) sums.sizes.glue) }
 {
+    if list.len() > 16_777_215 {
+        return Err(first_passed(list));
+    }
+    let mut measure = Measure::none();
     let mut sizes = Sizes {
         width: 0,
         height: 0,
@@ -50,9 +61,14 @@ fn sizes_of(list: &[Node]) -> Sizes
         glue: GlueTotals::none(),
     };
     for node in list {
+        measure.add(node);
         sizes.add(node);
     }
-    sizes
+    let told = measure.of_box()?;
+    Ok(Sums {
+        measure: told,
+        sizes,
+    })
 }
 
 impl Sizes {

@@ -4,6 +4,7 @@
 
 pub use goal::Goal;
 pub use horizontal::hpack;
+pub use laws::packed_boxes_tell;
 pub use packed::Packed;
 pub use report::Report;
 pub use vertical::{vpack, vtop};
@@ -13,7 +14,9 @@ mod fit;
 mod flexibility;
 mod goal;
 mod horizontal;
+mod laws;
 mod limits;
+mod measuring;
 mod packed;
 mod report;
 mod sums;

@@ -1,20 +1,11 @@
-//! The limits of boxes: how deep they are nested, how many nodes are in a list, how large a size is.
+//! The limit of sizes, and what sizes a box is to have.
 
-ghost use Rattle.std.specs.Prelude.{◌≡◌, ◌≤◌, ◌+◌, ◌-ℤ◌, ◌^◌, length, IfOk, OnOk};
-ghost use Rattle.nodes.specs.PackingMeasure.{nesting_of, count_of};
-ghost use Rattle.box_pack.specs.PackingLimits.{measured, limited, limited_extent};
+ghost use Rattle.std.specs.Prelude.{◌≡◌, ◌-ℤ◌, ◌^◌};
+ghost use Rattle.box_pack.specs.PackingLimits.{limited, limited_extent};
 ghost use Rattle.box_pack.specs.GlueSums.{IsWithin};
 
 use crate::extent::Extent;
-use nodes::{Node, measure};
 use tokens::{Cap, Stop};
-
-/// Nesting and count of a box.
-#[derive(Clone, Copy)]
-pub(crate) struct Measure {
-    pub(crate) nesting: u16,
-    pub(crate) count: u32,
-}
 
 /// What size a box is to have.
 #[derive(Clone, Copy)]
@@ -22,26 +13,6 @@ pub(crate) struct Plan {
     pub(crate) extent: Extent,
     /// By how much it is larger than its list, in sp.
     pub(crate) excess: i64,
-}
-
-/// What a box over this list tells of itself.
-pub(crate) fn measured(list: &[Node]) -> Result<Measure, Stop>
-    ensures measure { result ≡ measured list.now }
-    ensures nesting { IfOk result (λ measure. measure.nesting ≡ 1 + nesting_of list.now) }
-    ensures count { IfOk result (λ measure. measure.count ≡ count_of list.now) }
-    ensures short { OnOk result (length list.now ≤ 16777215) }
-{
-    let (nesting, count) = measure(list);
-    if nesting >= 500 {
-        return Err(Stop::Capacity(Cap::BoxNesting));
-    }
-    if count > 16_777_215 {
-        return Err(Stop::Capacity(Cap::Items));
-    }
-    Ok(Measure {
-        nesting: nesting + 1,
-        count,
-    })
 }
 
 /// A size of a box, in sp.

@@ -1,8 +1,9 @@
 //! What is to be told of a box whose glue doesn't suffice, or barely does (`tex.web`, sections 660, 666, 667, 674, 677
 //! and 678).
 
-/// What whoever packed a box may report of it. The first three are reported where their badness is above `\hbadness`, of a
-/// vbox above `\vbadness`; the last where its size is above `\hfuzz` or `\vfuzz`, or that parameter below 100.
+/// What whoever packed a box may report of it. `Loose`, `Under` and `Tight` are reported where their badness is above
+/// `\hbadness`, or for a vbox `\vbadness`; `Over` is where its size is above `\hfuzz` or `\vfuzz`, or where that bound of
+/// badness is below 100.
 #[derive(Clone, Copy, Debug, PartialEq, Eq)]
 pub enum Report {
     /// Nothing.

@@ -1,17 +1,18 @@
 //! Vboxes (`tex.web`, sections 668 to 672 and 1087).
 
-ghost use Rattle.std.specs.Prelude.{◌≡◌, ◌≤◌, ◌+◌, ◌+ℤ◌, ◌-ℤ◌, ◌^◌, ℕ, Some, IfOk, length};
+ghost use Rattle.std.specs.Prelude.{◌≡◌, ◌+◌, ◌+ℤ◌, ◌-ℤ◌, ◌^◌, ℕ, Some, IfOk};
 ghost use Rattle.std.specs.Int.{int_min};
 ghost use Rattle.box_pack.specs.PackingVertical.{standing, spaced, top_height};
 ghost use Rattle.box_pack.specs.PackingExtents.{leaders_extent};
 ghost use Rattle.box_pack.specs.PackingBoxes.{vpacked, vtopped, moved_to};
 ghost use Rattle.box_pack.specs.GlueSums.{IsWithin, glue_with};
-ghost use Rattle.box_pack.specs.VerticalSizes.{AreWithin, vertical_sizes, vertical_plan, with_node, with_drop};
+ghost use Rattle.box_pack.specs.VerticalSizes.{AreWithin, vertical_sums, vertical_plan, with_node, with_drop};
 
 use crate::extent::Extent;
 use crate::flexibility::GlueTotals;
 use crate::goal::Goal;
-use crate::limits::{Plan, excess, limited, limited_extent, measured};
+use crate::limits::{Plan, excess, limited, limited_extent};
+use crate::measuring::{Measure, first_passed};
 use crate::packed::Packed;
 use crate::sums::{greater, plus};
 use nodes::{BoxNode, Node, SkipNode};
@@ -22,10 +23,9 @@ use tokens::Stop;
 pub fn vpack(list: Vec<Node>, goal: Goal, max_depth: i32) -> Result<Packed, Stop>
     ensures { result ≡ vpacked list.items goal max_depth }
 {
-    let measure = measured(list.as_slice())?;
-    let sizes = sizes_of(list.as_slice());
-    let plan = sizes.plan(goal, max_depth)?;
-    Ok(Packed::new(list, true, plan, measure, &sizes.glue))
+    let sums = sums_of(list.as_slice())?;
+    let plan = sums.sizes.plan(goal, max_depth)?;
+    Ok(Packed::new(list, true, plan, sums.measure, &sums.sizes.glue))
 }
 
 /// The vbox of `vpack` with its reference point at its first item: its height is that of this item, where it is a box or a
@@ -74,12 +74,23 @@ pub(crate) struct Sizes {
     glue: GlueTotals,
 }
 
-/// The sizes of a list, in one pass.
-fn sizes_of(list: &[Node]) -> Sizes
-    requires { length list.now ≤ 16777215 }
-    ensures value { result ≡ vertical_sizes list.now }
-    ensures range { AreWithin (2 ^ 61) result }
+/// What is summed up over a list.
+#[derive(Clone, Copy)]
+pub(crate) struct Sums {
+    /// That of a box over the list.
+    measure: Measure,
+    sizes: Sizes,
+}
+
+/// The sums of a list whose measure is within its limits, in one pass.
+fn sums_of(list: &[Node]) -> Result<Sums, Stop>
+    ensures value { result ≡ vertical_sums list.now }
+    ensures range { IfOk result (λ sums. AreWithin (2 ^ 61) sums.sizes) }
 {
+    if list.len() > 16_777_215 {
+        return Err(first_passed(list));
+    }
+    let mut measure = Measure::none();
     let mut sizes = Sizes {
         length: 0,
         width: 0,
@@ -87,9 +98,14 @@ fn sizes_of(list: &[Node]) -> Sizes
         glue: GlueTotals::none(),
     };
     for node in list {
+        measure.add(node);
         sizes.add(node);
     }
-    sizes
+    let told = measure.of_box()?;
+    Ok(Sums {
+        measure: told,
+        sizes,
+    })
 }
 
 impl Sizes {
