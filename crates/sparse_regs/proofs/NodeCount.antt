@@ -1,11 +1,11 @@
 -- The nodes that stand are as many as there are prefixes of kept registers.
 use Rattle.std.proofs.Common.{◌≡◌, ◌≢◌, ℕ, ◌+◌, ◌-◌, ◌*◌, ◌/◌, ◌%◌, ◌<◌, ◌≤◌, inl, inr, refl, ap, sym, ◌∙◌, subst, arith, List, [], ◌∷◌, ◌++◌, length, Bool, true, false, suc, zero}
-use Rattle.std.specs.Prelude.{◌⊎◌, ◌==◌, ◌&&◌, ◌||◌, not, Option, None, Some, slice_index_or, IsTrue, if◌then◌else◌}
-use Rattle.std.specs.Option.{is_none}
-use Rattle.std.specs.List.{list_any, list_all, IsDistinct}
+use Rattle.std.specs.Prelude.{◌⊎◌, ◌==◌, ◌&&◌, ◌||◌, not, Option, None, Some, slice_index_or, IfSome, IfNone, cond, map, IsTrue, if◌then◌else◌}
+use Rattle.std.specs.Option.{is_none, is_some}
+use Rattle.std.specs.List.{position_or_len, list_any, list_all, IsDistinct}
 use Rattle.std.specs.Cmp.{IsEquivalence}
 use Rattle.std.specs.Set.{is_member, distinct_count}
-use Rattle.std.proofs.lemmas.Bool.{cases_eq, eq-eqb, eqb-true, ne_eqb, false≢true, false_from_ne_true, and_parts, and_from}
+use Rattle.std.proofs.lemmas.Bool.{cases_eq, eq-eqb, eqb-true, ne_eqb, false≢true, false_from_ne_true, and_parts, and_from, lt-ltb}
 use Rattle.std.proofs.lemmas.Cmp.{nat_eq_equiv}
 use Rattle.std.proofs.lemmas.List.Folds.{list_any-append}
 use Rattle.std.proofs.lemmas.Map.Made.{length-from_keys}
@@ -15,13 +15,15 @@ use Rattle.sparse_regs.specs.declared.node.Node.{Node}
 use Rattle.sparse_regs.specs.declared.node.Content.{Content}
 use Rattle.sparse_regs.specs.declared.node.Content.TheVariants.{Index, Leaf}
 use Rattle.sparse_regs.specs.Prefixes.{empty_prefix, longer, whole, same_prefix, prefixes, prefixes_of, node_count}
-use Rattle.sparse_regs.specs.Registers.{register_among, is_kept, taken_count, ListsKept}
+use Rattle.sparse_regs.specs.Registers.{register_among, is_kept, taken_count, ListsKept, index_of, is_place_of}
 use Rattle.sparse_regs.specs.Linked.{of, IsPrefix, IsLinked, shorter}
 use Rattle.sparse_regs.specs.Places.{node_at, prefix_in, child_in, child_in_content, prefix_from, parent_from, child_from, IsFormed, IsFormedContent, IsStored, stands_in, stands_content, IsTightBut, kept_from, registers_of}
 use Rattle.sparse_regs.proofs.PrefixLemmas.{prefix_ext, shorter-longer}
 use Rattle.sparse_regs.proofs.Paths.{first, first-standing, first-whole}
 use Rattle.sparse_regs.proofs.Shaping.{by_prefix, length-by_prefix, distinct-by_prefix}
-use Rattle.sparse_regs.proofs.Changing.{known-stands, kept-leaf}
+use Rattle.sparse_regs.proofs.Changing.{known-stands, kept-leaf, index-prefix, slots-seen}
+use Rattle.sparse_regs.proofs.Placing.{at-within}
+use Rattle.std.proofs.Math.ListN.{get_or-map}
 
 same_prefix-equal : (p q : Prefix) → same_prefix p q ≡ true → p ≡ q
 same_prefix-equal p q e =
@@ -183,15 +185,14 @@ leaf-below is_initial top places free h tight (suc r) i q e four =
     let below = leaf-below is_initial top places free h tight r found.1 (longer q found.0) there (omega arith) in
     (below.0, below.1, below.2, up-first q found.0 below.0 q.digits found.2 below.3 (h.linked.shaped i q e).least (omega arith))
 
-pub nodes-counted : {T : Type 0} (start : T) (is_initial : T → Bool) (top : List (Option ℕ)) (places : List (Option (Node T))) (free : List ℕ) → IsStored top places free → IsTightBut is_initial None places → is_initial start ≡ true
-    → (numbers : List ℕ) → ListsKept start is_initial numbers (registers_of places) → taken_count places ≡ node_count numbers
-nodes-counted {T} start is_initial top places free h tight initial numbers lists =
-    sym (length-by_prefix (λ p. p) places)
-    ∙ length-from_keys same_prefix-laws (by_prefix (λ p. p) places) (prefixes numbers) (distinct-by_prefix same_prefix (λ p. p) places h.linked.shaped (λ p q _ _ e. same_prefix-equal p q e) h.linked.one)
-    (λ q. both _ _ (into q) (back q))
+-- the prefixes that stand are those of the registers that are kept
+pub standing-prefixes : {T : Type 0} (start : T) (is_initial : T → Bool) (top : List (Option ℕ)) (places : List (Option (Node T))) (free : List ℕ) → IsStored top places free → IsTightBut is_initial None places → is_initial start ≡ true
+    → (numbers : List ℕ) → ListsKept start is_initial numbers (registers_of places)
+    → (q : Prefix) → is_member same_prefix (by_prefix (λ p. p) places) q ≡ is_member same_prefix (prefixes numbers) q
+standing-prefixes {T} start is_initial top places free h tight initial numbers lists q = both _ _ into back
   where
-    into : (q : Prefix) → is_member same_prefix (by_prefix (λ p. p) places) q ≡ true → is_member same_prefix (prefixes numbers) q ≡ true
-    into q e =
+    into : is_member same_prefix (by_prefix (λ p. p) places) q ≡ true → is_member same_prefix (prefixes numbers) q ≡ true
+    into e =
         let at = member-standing places q e in
         let shape : IsPrefix q = h.linked.shaped at.0 q at.1 in
         let below = leaf-below is_initial top places free h tight (4 - q.digits) at.0 q at.1 (omega (arith, shape.most)) in
@@ -204,10 +205,71 @@ nodes-counted {T} start is_initial top places free h tight initial numbers lists
     leaf_of n kept true t = member-standing places (whole n) t
     leaf_of n kept false t = absurd (kept-leaf start is_initial top places free n h initial kept (λ k e. false≢true (sym t ∙ standing-member places k (whole n) e)))
 
-    back : (q : Prefix) → is_member same_prefix (prefixes numbers) q ≡ true → is_member same_prefix (by_prefix (λ p. p) places) q ≡ true
-    back q e =
+    back : is_member same_prefix (prefixes numbers) q ≡ true → is_member same_prefix (by_prefix (λ p. p) places) q ≡ true
+    back e =
         let found = member-number numbers q e in
         let leaf = leaf_of found.0 (sym (lists found.0) ∙ found.1) (is_member same_prefix (by_prefix (λ p. p) places) (whole found.0)) refl in
         let digits = member-first found.0 q found.2 in
         let node = first-standing (prefix_from places) (parent_from places) (child_from top places) h.linked leaf.0 found.0 leaf.1 digits.0 digits.1 in
         standing-member places node.0 q (node.1 ∙ ap Some (sym digits.2))
+
+pub nodes-counted : {T : Type 0} (start : T) (is_initial : T → Bool) (top : List (Option ℕ)) (places : List (Option (Node T))) (free : List ℕ) → IsStored top places free → IsTightBut is_initial None places → is_initial start ≡ true
+    → (numbers : List ℕ) → ListsKept start is_initial numbers (registers_of places) → taken_count places ≡ node_count numbers
+nodes-counted {T} start is_initial top places free h tight initial numbers lists =
+    sym (length-by_prefix (λ p. p) places)
+    ∙ length-from_keys same_prefix-laws (by_prefix (λ p. p) places) (prefixes numbers) (distinct-by_prefix same_prefix (λ p. p) places h.linked.shaped (λ p q _ _ e. same_prefix-equal p q e) h.linked.one)
+    (standing-prefixes start is_initial top places free h tight initial numbers lists)
+
+-- ---- the index of a prefix
+
+test-found : {A : Type 0} (test : A → Bool) (xs : List A) (k : ℕ) (rest : A) → k < length xs → test (slice_index_or xs k rest) ≡ true → position_or_len test xs < length xs
+test-found test [] k rest h e = absurd (omega arith)
+test-found test (x ∷ xs) zero rest h e = omega (arith, ap (λ b. cond (not b) (1 + position_or_len test xs) 0) e)
+test-found test (x ∷ xs) (suc k) rest h e = by_test (test x) (test-found test xs k rest (omega arith) e)
+  where
+    by_test : (b : Bool) → position_or_len test xs < length xs → cond (not b) (1 + position_or_len test xs) 0 < length (x ∷ xs)
+    by_test true less = omega arith
+    by_test false less = omega arith
+
+-- the index of a prefix that stands is that of its node, since no other has this prefix
+pub index-known : {T : Type 0} (places : List (Option (Node T))) (p : Prefix) (i : ℕ)
+    → ((k j : ℕ) (q : Prefix) → prefix_from places k ≡ Some q → prefix_from places j ≡ Some q → k ≡ j)
+    → prefix_from places i ≡ Some p → index_of (registers_of places) p ≡ Some i
+index-known {T} places p i one here = by_index (index_of (registers_of places) p) refl
+  where
+    seen : is_place_of p (slice_index_or (map prefix_in places) i None) ≡ true
+    seen = ap (is_place_of p) (get_or-map prefix_in places i None ∙ here) ∙ same_prefix-refl p
+
+    within : i < length (map prefix_in places)
+    within = omega (arith, slots-seen places, at-within places i p here)
+
+    found : index_of (registers_of places) p ≡ Some (position_or_len (is_place_of p) (map prefix_in places))
+    found =
+        ap (λ b. cond b (Some (position_or_len (is_place_of p) (map prefix_in places))) None)
+        (lt-ltb (position_or_len (is_place_of p) (map prefix_in places)) (length (map prefix_in places)) (test-found (is_place_of p) (map prefix_in places) i None within seen))
+
+    by_index : (x : Option ℕ) → index_of (registers_of places) p ≡ x → index_of (registers_of places) p ≡ Some i
+    by_index None e = absurd (let no : None ≡ Some (position_or_len (is_place_of p) (map prefix_in places)) = sym e ∙ found in cc)
+    by_index (Some j) e = e ∙ ap Some (one j i p (index-prefix places p j e) here)
+
+-- what has this prefix, if anything does, is its index
+pub child-index : {T : Type 0} (places : List (Option (Node T))) (p : Prefix) (result : Option ℕ)
+    → ((k j : ℕ) (q : Prefix) → prefix_from places k ≡ Some q → prefix_from places j ≡ Some q → k ≡ j)
+    → IfSome result (λ i. prefix_from places i ≡ Some p) → IfNone result ((i : ℕ) → prefix_from places i ≢ Some p) → result ≡ index_of (registers_of places) p
+child-index {T} places p None one some none = by_index (index_of (registers_of places) p) refl
+  where
+    by_index : (x : Option ℕ) → index_of (registers_of places) p ≡ x → None ≡ index_of (registers_of places) p
+    by_index None e = sym e
+    by_index (Some j) e = absurd (none j (index-prefix places p j e))
+child-index places p (Some i) one some none = sym (index-known places p i one some)
+
+-- and it stands where it is a prefix of a register that is kept
+pub child-stands : {T : Type 0} (places : List (Option (Node T))) (p : Prefix) (result : Option ℕ)
+    → IfSome result (λ i. prefix_from places i ≡ Some p) → IfNone result ((i : ℕ) → prefix_from places i ≢ Some p)
+    → is_some result ≡ is_member same_prefix (by_prefix (λ q. q) places) p
+child-stands {T} places p None some none = by_test (is_member same_prefix (by_prefix (λ q. q) places) p) refl
+  where
+    by_test : (b : Bool) → is_member same_prefix (by_prefix (λ q. q) places) p ≡ b → false ≡ is_member same_prefix (by_prefix (λ q. q) places) p
+    by_test true e = let at = member-standing places p e in absurd (none at.0 at.1)
+    by_test false e = sym e
+child-stands places p (Some i) some none = sym (standing-member places i p some)

@@ -3,3 +3,4 @@ pub mod Prefixes
 pub mod Registers
 pub mod Linked
 pub mod Places
+pub mod Examples

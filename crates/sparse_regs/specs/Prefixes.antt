@@ -1,6 +1,6 @@
 -- The prefixes of register numbers, by hexadecimal digits, most significant first (etex.ch, on sparse arrays: a
 -- register number of four digits, and an index for each digit but the last).
-use Rattle.std.specs.Prelude.{ℕ, ◌+◌, ◌*◌, ◌/◌, ◌%◌, ◌==◌, Bool, ◌&&◌, List, [], ◌∷◌, ◌++◌}
+use Rattle.std.specs.Prelude.{ℕ, ◌+◌, ◌*◌, ◌/◌, ◌%◌, ◌==◌, max, Bool, ◌&&◌, List, [], ◌∷◌, ◌++◌}
 use Rattle.std.specs.Set.{distinct_count}
 use Rattle.sparse_regs.specs.declared.prefix.Prefix.{Prefix}
 
@@ -37,3 +37,8 @@ prefixes (n ∷ ns) = prefixes_of n ++ prefixes ns
 -- how many nodes some registers take: one for each of their prefixes, however often it comes
 abbrev pub node_count : List ℕ → ℕ
 node_count numbers = distinct_count same_prefix (prefixes numbers)
+
+-- the highest number of nodes so far, where some registers were held at first, then others, and so on
+abbrev pub highest_count : List (List ℕ) → ℕ
+highest_count [] = 0
+highest_count (numbers ∷ later) = max (node_count numbers) (highest_count later)

@@ -358,7 +358,7 @@ impl<T: Slot> Arena<T> {
         ensures taken { result ≡ nodes_of (registers_of self.now.places.items) }
         ensures prefixes { (numbers : List ℕ) → ListsKept T.start T.is_initial numbers (registers_of self.now.places.items) → result ≡ node_count numbers }
     {
-        (self.places.len() - self.free.len()) as u32
+        count_taken(&self.places, &self.free)
     }
 
     /// How many places there are.
@@ -414,6 +414,14 @@ impl<T: Slot> Arena<T> {
             None => unreachable!(),
         }
     }
+}
+
+/// How many places are taken, where the others are listed as free.
+fn count_taken<T>(places: &[Option<Node<T>>], free: &[u32]) -> u32
+    requires { IsCounted places.now free.now }
+    ensures { result ≡ taken_count places.now }
+{
+    (places.len() - free.len()) as u32
 }
 
 /// Takes a free place, or a new one.

@@ -2,12 +2,14 @@
 //! nodes that aren't initial or are held (`etex.ch`, on sparse arrays).
 #![tactic(auto)]
 
+pub use laws::neighbours_law;
 pub use prefix::Prefix;
 pub use slot::Slot;
 pub use tree::Tree;
 
 mod arena;
 mod children;
+mod laws;
 mod node;
 mod places;
 mod prefix;

@@ -53,7 +53,7 @@ impl Slot for Number {
     ghost resized_is_initial = { λ part value x. refl };
 }
 
-/// The node that some digits lead to.
+/// The node that some digits lead to, None where one of them leads nowhere or is none.
 fn way(tree: &Tree<Number>, digits: &[u8]) -> Option<u32> {
     let mut node = None;
     for digit in digits {
@@ -93,12 +93,31 @@ fn replace<L: Ledger>(
     Ok(tree.replace(n, Number(value), steps).0)
 }
 
-/// The nodes and slots after each of some calls, which hold a register or release it, and the node of 1c5a.
-fn play<L: Ledger>(
-    alloc: Global,
-    calls: &[(bool, u16)],
-    blank: Blank,
-) -> Result<Vec<(u32, u32, Option<u32>)>, Fail>
+/// What a tree of the two neighbours tells.
+#[derive(Debug, Drop)]
+struct Seen {
+    nodes: u32,
+    slots: u32,
+    /// The node of 1c5.
+    both: Option<u32>,
+    /// The node of 1c59.
+    first: Option<u32>,
+    /// The node of 1c5a.
+    second: Option<u32>,
+}
+
+fn look(tree: &Tree<Number>) -> Seen {
+    Seen {
+        nodes: tree.nodes(),
+        slots: tree.slots(),
+        both: way(tree, &[1, 12, 5]),
+        first: way(tree, &[1, 12, 5, 9]),
+        second: way(tree, &[1, 12, 5, 10]),
+    }
+}
+
+/// What the tree tells after each of some calls, which hold a register or release it.
+fn play<L: Ledger>(alloc: Global, calls: &[(bool, u16)], blank: Blank) -> Result<Vec<Seen>, Fail>
     requires name { blank.name ≡ L.name }
     requires parts { blank.parts ≡ L.parts }
     requires some { 0 < L.parts }
@@ -112,7 +131,7 @@ fn play<L: Ledger>(
         } else {
             release(&mut tree, *n, &mut steps)?;
         }
-        seen.push((tree.nodes(), tree.slots(), way(&tree, &[1, 12, 5, 10])))?;
+        seen.push(look(&tree))?;
     }
     Ok(seen)
 }
@@ -145,24 +164,48 @@ fn many<L: Ledger>(alloc: Global, blank: Blank) -> Result<(u32, u32), Fail>
     Ok((tree.nodes(), tree.slots()))
 }
 
+/// The two neighbours come, the first goes and then the second, and a register comes that shares no digit with them.
+const CALLS: [(bool, u16); 5] = [
+    (true, 7257),
+    (true, 7258),
+    (false, 7257),
+    (false, 7258),
+    (true, 32_767),
+];
+
 #[test]
 fn neighbours_share_nodes(rt: HostRuntime) -> Result<(), Fail> {
-    let calls = [
-        (true, 7257),
-        (true, 7258),
-        (false, 7257),
-        (false, 7258),
-        (true, 32_767),
-    ];
-    let seen = play::<Brand>(rt.alloc(), &calls, Blank::new(1))?;
-    let expected = [
-        (4, 4, None),
-        (5, 5, Some(4)),
-        (4, 5, Some(4)),
-        (0, 5, None),
-        (4, 5, None),
-    ];
-    assert_eq!(rt; seen.as_slice(), expected.as_slice());
+    let seen = play::<Brand>(rt.alloc(), &CALLS, Blank::new(1))?;
+    let counts: Vec<(u32, u32)> = seen
+        .iter()
+        .map(|tree| (tree.nodes, tree.slots))
+        .collect(rt.alloc())?;
+    let expected = [(4, 4), (5, 5), (4, 5), (0, 5), (4, 5)];
+    assert_eq!(rt; counts.as_slice(), expected.as_slice());
+    Ok(())
+}
+
+/// Whether two neighbours had indices of their own below the slots, and the second kept its index when the first went.
+fn keeps_index(before: &Seen, after: &Seen) -> bool {
+    let (Some(first), Some(second)) = (before.first, before.second) else {
+        return false;
+    };
+    first != second
+        && first < before.slots
+        && second < before.slots
+        && before.both.is_some()
+        && after.first.is_none()
+        && after.second == before.second
+        && after.both == before.both
+}
+
+#[test]
+fn index_of_a_neighbour_stays(rt: HostRuntime) -> Result<(), Fail> {
+    let seen = play::<Brand>(rt.alloc(), &CALLS, Blank::new(1))?;
+    match seen.as_slice() {
+        [_, before, after, ..] => assert!(rt; keeps_index(before, after)),
+        _ => return Err("too few answers".into()),
+    }
     Ok(())
 }
 

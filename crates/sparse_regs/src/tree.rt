@@ -1,8 +1,9 @@
 //! Trees of registers by hexadecimal digits.
 ghost use Rattle.std.specs.Prelude.{◌≡◌, ℕ, ℤ, ◌+◌, ◌<◌, ◌^◌, max, true, List, Option, None, Some, IfSome, IsSome, IsSomeAnd, IfNone, ◌≢◌, OnOk, OnErr};
-ghost use Rattle.std.specs.Option.{option_copied, option_map, option_and_then};
+ghost use Rattle.std.specs.Option.{option_copied, is_some};
+ghost use Rattle.std.specs.List.{list_any};
 ghost use Rattle.sparse_regs.specs.declared.prefix.Prefix.{Prefix};
-ghost use Rattle.sparse_regs.specs.Prefixes.{longer, whole, node_count};
+ghost use Rattle.sparse_regs.specs.Prefixes.{longer, whole, same_prefix, prefixes, node_count};
 ghost use Rattle.sparse_regs.specs.Registers.{untouched, register_at, updated, with_holder, without_holder, with_value, with_resized, is_kept, value_if_kept, prefix_of, prefix_at, index_of, KeepsIndices, ListsKept, slots_of, nodes_of, numbers_of};
 
 use crate::arena::Arena;
@@ -120,11 +121,15 @@ impl<T: Slot> Tree<T> {
     }
 
     /// The index of the node for a node's prefix with a digit more, None where that has no node. None as the parent
-    /// is above all nodes. It takes no memory.
+    /// is above all nodes. A prefix has a node where it is one of a register that isn't initial or is held, and its
+    /// index is its own. It takes no memory.
     pub fn child(&self, parent: Option<u32>, digit: u8) -> Option<u32>
         requires { digit < 16 }
         ensures some { (p : Prefix) → prefix_of self.now parent ≡ Some p → IfSome result (λ i. prefix_at self.now i ≡ Some (longer p digit)) }
         ensures none { (p : Prefix) → prefix_of self.now parent ≡ Some p → IfNone result ((i : ℕ) → prefix_at self.now i ≢ Some (longer p digit)) }
+        ensures index { (p : Prefix) → prefix_of self.now parent ≡ Some p → result ≡ index_of self.now (longer p digit) }
+        ensures stands { (p : Prefix) (numbers : List ℕ) → prefix_of self.now parent ≡ Some p → ListsKept T.start T.is_initial numbers self.now
+            → is_some result ≡ list_any (same_prefix (longer p digit)) (prefixes numbers) }
     {
         self.arena.child_of(parent, digit)
     }
