@@ -21,3 +21,6 @@ mod walking;
 
 pub use dvi::Dvi;
 pub use font::FontDef;
+
+#[cfg(test)]
+mod tests;
