@@ -1,11 +1,12 @@
 -- How far a phrase was read, as the code keeps it, and for which lists of what was taken that stands: whatever is taken
 -- next, the phrase wants then what is said of the rest.
-use Rattle.std.specs.Prelude.{◌≡◌, ◌==◌, Bool, true, false, if◌then◌else◌, List, [], ◌∷◌, ◌++◌, map, None}
+use Rattle.std.specs.Prelude.{◌≡◌, ◌==◌, Bool, true, false, if◌then◌else◌, List, [], ◌∷◌, ◌++◌, length, map, None}
 use Rattle.tokens.specs.declared.token.Token.{Token}
 use Rattle.tokens.specs.declared.meaning.Meaning.{Meaning}
 use Rattle.scan_nums.specs.Number.{first_number}
 use Rattle.scan_nums.specs.Starts.{is_space}
-use Rattle.scan_nums.specs.IntScan.{Stands as NumberStands}
+use Rattle.scan_nums.specs.Awaited.{NextToken, Answer, Resumption}
+use Rattle.scan_nums.specs.IntScan.{awaits, Stands as NumberStands}
 use Rattle.conditionals.specs.Skipping.{StandsFor}
 use Rattle.macro_args.specs.Scanning.{StandsFor as ArgumentsStand}
 use Rattle.gullet.specs.declared.context.Context.{Context}
@@ -23,7 +24,7 @@ use Rattle.gullet.specs.Wants.{Taken, wants, done, only, told_of, token_of, mean
 -- what the phrase wants where a token with this meaning is taken next, or this is told, and then these are taken
 abbrev pub rest : Progress → Token → Meaning → Told → List Taken → Want
 rest (progress.Number scan last) t m v xs = Raw
-rest (progress.Passing scan) t m v xs = Raw
+rest (progress.Passing scan count) t m v xs = Raw
 rest (progress.Call name called scan) t m v xs = Raw
 rest (progress.Finishing back) t m v xs = Gives told.Done back
 rest progress.Telling t m v xs = Gives v None
@@ -58,7 +59,8 @@ Follows p c kind taken = (x : Taken) (xs : List Taken) → wants c kind (taken +
 abbrev pub Stands : Progress → Context → Task → List Taken → Type 0
 Stands (progress.Number scan last) c kind taken =
     (kind ≡ task.WholeNumber) × NumberStands scan (map scanned taken) × (last ≡ last_token taken)
-Stands (progress.Passing scan) c kind taken = (kind ≡ task.PassOver) × StandsFor 0 (map meaning_of taken) scan
+Stands (progress.Passing scan count) c kind taken =
+    (kind ≡ task.PassOver) × StandsFor 0 (map meaning_of taken) scan × (count ≡ length taken)
 Stands (progress.Call name called scan) c kind taken =
     (kind ≡ task.Call name called) × ArgumentsStand (matching called) called.params (tokens_in taken) scan × (was_done taken ≡ false)
 Stands (progress.Finishing back) c kind taken = Follows (progress.Finishing back) c kind taken
@@ -90,6 +92,96 @@ WhileOpen (Inner inner) P = P
 WhileOpen (Gives told back) P = Unit {0}
 WhileOpen (Wrong kind) P = Unit {0}
 
+-- ---- what a step waits for
+
+-- a number waits for what its grammar asks for; a text that is passed over and a macro's call take tokens alone; any other
+-- step takes what comes
+abbrev pub FitsToken : Progress → Type 0
+FitsToken (progress.Number scan last) = awaits scan ≡ NextToken
+FitsToken (progress.Passing scan count) = Unit {0}
+FitsToken (progress.Call name called scan) = Unit {0}
+FitsToken (progress.Finishing back) = Unit {0}
+FitsToken progress.Telling = Unit {0}
+FitsToken progress.ExpandFirst = Unit {0}
+FitsToken (progress.ExpandSecond first) = Unit {0}
+FitsToken progress.Digits = Unit {0}
+FitsToken (progress.RegisterNumber code) = Unit {0}
+FitsToken progress.Opened = Unit {0}
+FitsToken (progress.FirstNumber level) = Unit {0}
+FitsToken (progress.Relation level first) = Unit {0}
+FitsToken (progress.SecondNumber level relation first) = Unit {0}
+FitsToken (progress.PassedOver level) = Unit {0}
+FitsToken (progress.Left level) = Unit {0}
+FitsToken progress.Met = Unit {0}
+FitsToken progress.ToFi = Unit {0}
+FitsToken (progress.Name text) = Unit {0}
+FitsToken progress.FileStart = Unit {0}
+FitsToken (progress.File text) = Unit {0}
+FitsToken progress.Named = Unit {0}
+
+abbrev pub FitsGot : Progress → Type 0
+FitsGot (progress.Number scan last) = awaits scan ≡ Answer
+FitsGot (progress.Passing scan count) = ⊥
+FitsGot (progress.Call name called scan) = ⊥
+FitsGot (progress.Finishing back) = Unit {0}
+FitsGot progress.Telling = Unit {0}
+FitsGot progress.ExpandFirst = Unit {0}
+FitsGot (progress.ExpandSecond first) = Unit {0}
+FitsGot progress.Digits = Unit {0}
+FitsGot (progress.RegisterNumber code) = Unit {0}
+FitsGot progress.Opened = Unit {0}
+FitsGot (progress.FirstNumber level) = Unit {0}
+FitsGot (progress.Relation level first) = Unit {0}
+FitsGot (progress.SecondNumber level relation first) = Unit {0}
+FitsGot (progress.PassedOver level) = Unit {0}
+FitsGot (progress.Left level) = Unit {0}
+FitsGot progress.Met = Unit {0}
+FitsGot progress.ToFi = Unit {0}
+FitsGot (progress.Name text) = Unit {0}
+FitsGot progress.FileStart = Unit {0}
+FitsGot (progress.File text) = Unit {0}
+FitsGot progress.Named = Unit {0}
+
+abbrev pub FitsWas : Progress → Type 0
+FitsWas (progress.Number scan last) = awaits scan ≡ Resumption
+FitsWas (progress.Passing scan count) = ⊥
+FitsWas (progress.Call name called scan) = ⊥
+FitsWas (progress.Finishing back) = Unit {0}
+FitsWas progress.Telling = Unit {0}
+FitsWas progress.ExpandFirst = Unit {0}
+FitsWas (progress.ExpandSecond first) = Unit {0}
+FitsWas progress.Digits = Unit {0}
+FitsWas (progress.RegisterNumber code) = Unit {0}
+FitsWas progress.Opened = Unit {0}
+FitsWas (progress.FirstNumber level) = Unit {0}
+FitsWas (progress.Relation level first) = Unit {0}
+FitsWas (progress.SecondNumber level relation first) = Unit {0}
+FitsWas (progress.PassedOver level) = Unit {0}
+FitsWas (progress.Left level) = Unit {0}
+FitsWas progress.Met = Unit {0}
+FitsWas progress.ToFi = Unit {0}
+FitsWas (progress.Name text) = Unit {0}
+FitsWas progress.FileStart = Unit {0}
+FitsWas (progress.File text) = Unit {0}
+FitsWas progress.Named = Unit {0}
+
+-- what is taken next is something that the step waits for
+abbrev pub Ready : Want → Progress → Type 0
+Ready Raw p = FitsToken p
+Ready Expanded p = FitsToken p
+Ready Character p = FitsToken p
+Ready (Act act) p = FitsWas p
+Ready (Inner inner) p = FitsGot p
+Ready (Gives told back) p = Unit {0}
+Ready (Wrong kind) p = Unit {0}
+
+-- a step takes this up: for each list of which the step before is one, what it wants then is what the phrase wants behind
+-- the longer list, and the step behind is one of that list; and what is wanted fits it
+pub record TakesUp (before : Progress) (x : Taken) (after : Progress) (want : Want) : Type 0 where
+  pub wants : (c : Context) (kind : Task) (taken : List Taken) → Stands before c kind taken → want ≡ wants c kind (taken ++ x ∷ [])
+  pub stands : (c : Context) (kind : Task) (taken : List Taken) → Stands before c kind taken → WhileOpen want (Stands after c kind (taken ++ x ∷ []))
+  pub ready : Ready want after
+
 -- one thing more was taken: what is wanted behind further ones, seen from before, is what is wanted seen from behind it
 abbrev pub Steps : Progress → Token → Meaning → Told → Progress → Type 0
 Steps before t m v after = (x : Taken) (xs : List Taken) → rest before t m v (x ∷ xs) ≡ rest_behind after x xs
@@ -97,7 +189,7 @@ Steps before t m v after = (x : Taken) (xs : List Taken) → rest before t m v (
 -- a step other than of a number, of a text that is passed over and of a macro's call
 abbrev pub is_plain : Progress → Bool
 is_plain (progress.Number scan last) = false
-is_plain (progress.Passing scan) = false
+is_plain (progress.Passing scan count) = false
 is_plain (progress.Call name called scan) = false
 is_plain (progress.Finishing back) = true
 is_plain progress.Telling = true
@@ -121,7 +213,7 @@ is_plain progress.Named = true
 -- a plain step that follows stands
 pub stands-plain : (p : Progress) (c : Context) (kind : Task) (taken : List Taken) → is_plain p ≡ true → Follows p c kind taken → Stands p c kind taken
 stands-plain (progress.Number scan last) c kind taken h f = cc
-stands-plain (progress.Passing scan) c kind taken h f = cc
+stands-plain (progress.Passing scan count) c kind taken h f = cc
 stands-plain (progress.Call name called scan) c kind taken h f = cc
 stands-plain (progress.Finishing back) c kind taken h f = f
 stands-plain progress.Telling c kind taken h f = f
@@ -144,7 +236,7 @@ stands-plain progress.Named c kind taken h f = f
 
 pub follows-plain : (p : Progress) (c : Context) (kind : Task) (taken : List Taken) → is_plain p ≡ true → Stands p c kind taken → Follows p c kind taken
 follows-plain (progress.Number scan last) c kind taken h f = cc
-follows-plain (progress.Passing scan) c kind taken h f = cc
+follows-plain (progress.Passing scan count) c kind taken h f = cc
 follows-plain (progress.Call name called scan) c kind taken h f = cc
 follows-plain (progress.Finishing back) c kind taken h f = f
 follows-plain progress.Telling c kind taken h f = f

@@ -3,7 +3,7 @@
 
 ghost use Rattle.std.specs.Prelude.{◌≡◌, [], ◌∷◌, true, List, Option, IfOk};
 ghost use Rattle.gullet.specs.declared.context.Context.{Context};
-ghost use Rattle.gullet.specs.Progress.{rest_behind, is_plain, WhileOpen, Stands};
+ghost use Rattle.gullet.specs.Progress.{rest_behind, is_plain, WhileOpen, Stands, Ready};
 ghost use Rattle.gullet.specs.Wants.{Taken, wants, quantity_by, input_by, call_want};
 
 use crate::context::Context;
@@ -22,6 +22,7 @@ const IF_NUMBER: i8 = 3;
 pub fn begin(alloc: Global, context: Context, task: Task) -> Result<(Progress, Want), AllocError>
     ensures want { IfOk result (λ r. r.1 ≡ wants context task []) }
     ensures stands { IfOk result (λ r. WhileOpen r.1 (Stands r.0 context task [])) }
+    ensures ready { IfOk result (λ r. Ready r.1 r.0) }
 {
     match task {
         Task::Call { name, called } => begin_call(alloc, name, called),
@@ -37,7 +38,13 @@ pub fn begin(alloc: Global, context: Context, task: Task) -> Result<(Progress, W
         Task::ExpandAfter => Ok((Progress::ExpandFirst, Want::Raw)),
         Task::NumberText => Ok((Progress::Digits, Want::Inner(Task::WholeNumber))),
         Task::IfNumber => Ok((Progress::Opened, Want::Act(Act::Open(IF_NUMBER)))),
-        Task::PassOver => Ok((Progress::Passing(SkipScan::new(0)), Want::Raw)),
+        Task::PassOver => Ok((
+            Progress::Passing {
+                scan: SkipScan::new(0),
+                taken: 0,
+            },
+            Want::Raw,
+        )),
         Task::BranchEnd { token, word } => Ok((
             Progress::Met,
             Want::Act(Act::Meet { token, word }),
@@ -64,6 +71,7 @@ fn only(act: Act) -> (Progress, Want)
 fn begin_quantity(quantity: Quantity) -> (Progress, Want)
     ensures want { result.1 ≡ quantity_by quantity quantity.index [] }
     ensures stands { WhileOpen result.1 ((context : Context) → Stands result.0 context (Task.QuantityValue quantity) []) }
+    ensures ready { Ready result.1 result.0 }
 {
     if quantity.index.is_none() && codes::COUNT <= quantity.code && quantity.code <= codes::MUSKIP {
         (
@@ -81,6 +89,7 @@ fn begin_input(naming: bool, token: Token) -> (Progress, Want)
     ensures want { result.1 ≡ input_by token naming [] }
     ensures follows { WhileOpen result.1 ((x : Taken) (xs : List Taken) → input_by token naming (x ∷ xs) ≡ rest_behind result.0 x xs) }
     ensures plain { is_plain result.0 ≡ true }
+    ensures ready { Ready result.1 result.0 }
 {
     if naming {
         only(Act::InsertRelax(token))
@@ -93,6 +102,7 @@ fn begin_input(naming: bool, token: Token) -> (Progress, Want)
 fn begin_call(alloc: Global, name: Token, called: Macro) -> Result<(Progress, Want), AllocError>
     ensures want { IfOk result (λ r. r.1 ≡ call_want name called []) }
     ensures stands { IfOk result (λ r. WhileOpen r.1 ((context : Context) → Stands r.0 context (Task.Call name called) [])) }
+    ensures ready { IfOk result (λ r. Ready r.1 r.0) }
 {
     if !takes_tokens(&called.params) {
         return Ok(only(Act::Text {

@@ -10,3 +10,10 @@ pub struct Context {
     /// Whether no file may end here, and no outer macro may stand here.
     pub closed: bool,
 }
+
+/// Nothing stands around.
+pub const OUTERMOST: Context = Context {
+    depth: 0,
+    naming: false,
+    closed: false,
+};

@@ -1,10 +1,10 @@
 //! What a token means now, and what expansion makes of it (The TeXbook, chapter 20; `tex.web`, parts 25 and 26).
 #![tactic(auto, using(asking::specs::Asked::asking), unfolding(crate::specs::Meanings::taken_meaning))]
 
-ghost use Rattle.std.specs.Prelude.{◌≡◌, ◌||◌, IfOk};
+ghost use Rattle.std.specs.Prelude.{◌≡◌, ◌||◌, is_some, IfOk};
 ghost use Rattle.save_groups.specs.Standing.{copies_of};
 ghost use Rattle.scan_nums.specs.Starts.{is_asked, is_expression};
-ghost use Rattle.gullet.specs.Meanings.{is_carried_out, is_expandable_code, is_looked_at, is_missing, key_of, taken_meaning, expansion, expansion_of_code, is_outer, HasFixed, KnownBy};
+ghost use Rattle.gullet.specs.Meanings.{is_carried_out, is_expandable_code, is_looked_at, is_missing, key_of, known, taken_meaning, expansion, expansion_of_code, is_outer, HasFixed, KnownBy};
 
 use crate::task::{BranchWord, Task};
 use save_groups::{Env, Key};
@@ -175,4 +175,106 @@ pub fn is_outer(meaning: &Meaning) -> bool
         | Meaning::Register { .. }
         | Meaning::Font(_) => false,
     }
+}
+
+/// The phrase to which the expansion of a token leads that was taken, if it is expanded. One that isn't to be expanded
+/// leads to none.
+pub fn expansion_of(env: &Env, token: Token, noexpand: bool) -> Result<Option<Task>, AllocError>
+    ensures { IfOk result (λ task. task ≡ expansion token (taken_meaning (copies_of env.now) token noexpand)) }
+{
+    if noexpand {
+        return Ok(None);
+    }
+    match token {
+        Token::Char { .. } | Token::Frozen(_) => Ok(None),
+        Token::Arg(_) => Ok(Some(Task::Undefined(token))),
+        Token::Active(byte) => known_expansion(token, env.meaning(Key::Active(byte))),
+        Token::Name(id) => known_expansion(token, env.meaning(Key::Name(id))),
+    }
+}
+
+/// The same of a token whose meaning an environment holds.
+fn known_expansion(token: Token, meaning: &Meaning) -> Result<Option<Task>, AllocError>
+    ensures { IfOk result (λ task. task ≡ expansion token (known meaning.now)) }
+{
+    match meaning {
+        Meaning::Primitive(code) if is_missing(*code) => Ok(Some(Task::Undefined(token))),
+        _ => expansion(token, meaning),
+    }
+}
+
+/// Whether a token that was taken is a macro that may not stand where no outer one may. One that isn't to be expanded is
+/// none.
+pub fn is_outer_token(env: &Env, token: Token, noexpand: bool) -> bool
+    ensures { result ≡ is_outer (taken_meaning (copies_of env.now) token noexpand) }
+{
+    if noexpand {
+        return false;
+    }
+    match token {
+        Token::Char { .. } | Token::Frozen(_) | Token::Arg(_) => false,
+        Token::Active(byte) => is_known_outer(env.meaning(Key::Active(byte))),
+        Token::Name(id) => is_known_outer(env.meaning(Key::Name(id))),
+    }
+}
+
+/// The same of a meaning that an environment holds.
+fn is_known_outer(meaning: &Meaning) -> bool
+    ensures { result ≡ is_outer (known meaning.now) }
+{
+    is_outer(meaning)
+}
+
+/// The meaning of a token that was taken, where `fixed` is the one that no environment holds.
+pub fn taken_meaning<'a>(
+    env: &'a Env,
+    fixed: &'a Option<Meaning>,
+    token: Token,
+    noexpand: bool,
+) -> &'a Meaning
+    requires { HasFixed (copies_of env.now) token noexpand fixed.now }
+    ensures { result.now ≡ taken_meaning (copies_of env.now) token noexpand }
+{
+    match (fixed, key_of(token)) {
+        (Some(meaning), _) => meaning,
+        (None, Some(key)) => env.meaning(key),
+        (None, None) => unreachable!(),
+    }
+}
+
+/// Whether a token that was taken is expanded.
+pub fn is_expanded(env: &Env, token: Token, noexpand: bool) -> bool
+    ensures { result ≡ is_some (expansion token (taken_meaning (copies_of env.now) token noexpand)) }
+{
+    if noexpand {
+        return false;
+    }
+    match token {
+        Token::Char { .. } | Token::Frozen(_) => false,
+        Token::Arg(_) => true,
+        Token::Active(byte) => is_expanded_meaning(token, env.meaning(Key::Active(byte))),
+        Token::Name(id) => is_expanded_meaning(token, env.meaning(Key::Name(id))),
+    }
+}
+
+/// The same of a token whose meaning an environment holds.
+fn is_expanded_meaning(token: Token, meaning: &Meaning) -> bool
+    ensures { result ≡ is_some (expansion token (known meaning.now)) }
+{
+    match meaning {
+        Meaning::Undefined | Meaning::Macro(_) => true,
+        Meaning::Primitive(code) => is_missing(*code) || is_expanded_code(token, *code),
+        Meaning::Char { .. }
+        | Meaning::CharDef(_)
+        | Meaning::MathCharDef(_)
+        | Meaning::Register { .. }
+        | Meaning::Font(_) => false,
+    }
+}
+
+/// The same of a primitive whose expansion is carried out.
+fn is_expanded_code(token: Token, code: u16) -> bool
+    ensures { result ≡ is_some (expansion_of_code token code) }
+{
+    is_carried_out(code)
 }

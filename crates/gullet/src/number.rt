@@ -1,15 +1,21 @@
 //! What a whole number wants next (The TeXbook, chapter 24; `tex.web` 440).
 #![tactic(auto, using(asking::specs::Asked::asking))]
 
-ghost use Rattle.std.specs.Prelude.{◌≡◌, IfOk};
+ghost use Rattle.std.specs.Prelude.{◌≡◌, IfOk, Option};
+ghost use Rattle.scan_nums.specs.Awaited.{NextToken, Answer, Resumption};
+ghost use Rattle.scan_nums.specs.IntScan.{awaits};
 ghost use Rattle.scan_nums.specs.Number.{IsNegatable};
-ghost use Rattle.gullet.specs.Wants.{negatable, is_above_lowest, are_above_lowest, given_back, number_want};
+ghost use Rattle.tokens.specs.declared.token.Token.{Token};
+ghost use Rattle.gullet.specs.Progress.{TakesUp};
+ghost use Rattle.gullet.specs.Wants.{Tok, Got, Was, negatable, is_above_lowest, are_above_lowest, given_back, number_want};
 
+use crate::progress::Progress;
+use crate::step::number_told;
 use crate::task::{Act, Task, Told, Want};
 use scaled::Glue;
-use scan_nums::{Number, Verdict};
+use scan_nums::{IntScan, Number, Verdict};
 use std::alloc::{AllocError, Global};
-use tokens::{Kind, Text, Token};
+use tokens::{Kind, Meaning, Text, Token};
 
 fn is_above_lowest(number: i32) -> bool
     ensures { result ≡ is_above_lowest number }
@@ -26,6 +32,7 @@ fn are_above_lowest(glue: Glue) -> bool
 /// The number, or 0 where it has no negative.
 pub fn negatable(number: Number) -> Number
     ensures value { result ≡ negatable number }
+    ensures fits { IsNegatable result }
 {
     let is_negatable = match number {
         Number::Int(n) => is_above_lowest(n),
@@ -74,4 +81,47 @@ pub fn number_want(
             back: given_back(back, last),
         })),
     }
+}
+
+/// The number takes a token.
+pub fn take_token(
+    alloc: Global,
+    mut scan: IntScan,
+    token: Token,
+    meaning: &Meaning,
+) -> Result<(Progress, Want), AllocError>
+    requires { awaits scan ≡ NextToken }
+    ensures { IfOk result (λ r. (last : Option Token) → TakesUp (Progress.Number scan last) (Tok token meaning.now) r.0 r.1) }
+{
+    let verdict = scan.take(token, meaning);
+    let is_character = scan.wants_character();
+    let last = Some(token);
+    let want = number_want(alloc, verdict, is_character, last)?;
+    Ok((Progress::Number { scan, last }, want))
+}
+
+/// The number takes the value that it asked for.
+pub fn take_value(
+    alloc: Global,
+    mut scan: IntScan,
+    told: Told,
+) -> Result<(Progress, Want), AllocError>
+    requires { awaits scan ≡ Answer }
+    ensures { IfOk result (λ r. (last : Option Token) → TakesUp (Progress.Number scan last) (Got told) r.0 r.1) }
+{
+    let verdict = scan.answer(negatable(number_told(&told)));
+    let is_character = scan.wants_character();
+    let want = number_want(alloc, verdict, is_character, None)?;
+    Ok((Progress::Number { scan, last: None }, want))
+}
+
+/// The number goes on behind a trouble that was passed over.
+pub fn resume(alloc: Global, mut scan: IntScan) -> Result<(Progress, Want), AllocError>
+    requires { awaits scan ≡ Resumption }
+    ensures { IfOk result (λ r. (last : Option Token) (told : Told) → TakesUp (Progress.Number scan last) (Was told) r.0 r.1) }
+{
+    let verdict = scan.resume();
+    let is_character = scan.wants_character();
+    let want = number_want(alloc, verdict, is_character, None)?;
+    Ok((Progress::Number { scan, last: None }, want))
 }

@@ -13,8 +13,11 @@ pub enum Progress {
         scan: IntScan,
         last: Option<Token>,
     },
-    /// A text that is passed over.
-    Passing(SkipScan),
+    /// A text that is passed over, and how many of its tokens were taken.
+    Passing {
+        scan: SkipScan,
+        taken: u64,
+    },
     /// A macro's call, by its name, with what was read of its arguments.
     Call {
         name: Token,

@@ -1,9 +1,9 @@
 //! A phrase takes one thing more, and says what it wants next.
 #![tactic(auto, using(asking::specs::Asked::asking))]
 
-ghost use Rattle.std.specs.Prelude.{◌≡◌, ◌==◌, [], ◌∷◌, List, Option, IfOk, if◌then◌else◌};
+ghost use Rattle.std.specs.Prelude.{◌≡◌, ◌==◌, [], ◌∷◌, List, Option, IfOk, if◌then◌else◌, true};
 ghost use Rattle.scan_nums.specs.Starts.{is_space};
-ghost use Rattle.gullet.specs.Progress.{rest, rest_behind, WhileOpen, Steps};
+ghost use Rattle.gullet.specs.Progress.{rest, rest_behind, WhileOpen, Steps, is_plain};
 ghost use Rattle.gullet.specs.Wants.{Taken, done, only, number_told, level_told, word_told, goes_on, text_told, second_want, relation_of, holds, decided, false_want, to_fi_want, byte_of, name_by, name_from, letter_of, file_by, file_from, is_end_of_name};
 
 use crate::meanings::expansion;
@@ -14,7 +14,7 @@ use std::alloc::{AllocError, Global};
 use tokens::{Kind, Meaning, Text, Token, codes};
 
 /// The number that is told, 0 where none is.
-fn number_told(told: &Told) -> Number
+pub fn number_told(told: &Told) -> Number
     ensures { result ≡ number_told told.now }
 {
     match told {
@@ -67,7 +67,8 @@ fn text_told(alloc: Global, told: Told) -> Text
 
 /// The phrase is at its end, and tells nothing.
 fn finished() -> (Progress, Want)
-    ensures { result.1 ≡ Want.Gives Told.Done Option.None }
+    ensures want { result.1 ≡ Want.Gives Told.Done Option.None }
+    ensures plain { is_plain result.0 ≡ true }
 {
     (
         Progress::Telling,
@@ -86,8 +87,8 @@ fn last_act(act: Act) -> (Progress, Want)
     (Progress::Finishing { back: None }, Want::Act(act))
 }
 
-/// The phrase takes one thing more: a token with its meaning, or what is told. What the phrase doesn't look at is of no
-/// account.
+/// A phrase other than a number, a text that is passed over and a macro's call takes one thing more: a token with its
+/// meaning, or what is told. What the phrase doesn't look at is of no account.
 pub fn step(
     alloc: Global,
     progress: Progress,
@@ -95,16 +96,14 @@ pub fn step(
     meaning: &Meaning,
     told: Told,
 ) -> Result<(Progress, Want), AllocError>
+    requires { is_plain progress ≡ true }
     ensures want { IfOk result (λ r. r.1 ≡ rest progress token meaning.now told []) }
     ensures steps { IfOk result (λ r. WhileOpen r.1 (Steps progress token meaning.now told r.0)) }
+    ensures plain { IfOk result (λ r. is_plain r.0 ≡ true) }
 {
     match progress {
-        Progress::Number { scan, last } => Ok((Progress::Number { scan, last }, Want::Raw)),
-        Progress::Passing(scan) => Ok((Progress::Passing(scan), Want::Raw)),
-        Progress::Call { name, called, scan } => Ok((
-            Progress::Call { name, called, scan },
-            Want::Raw,
-        )),
+        Progress::Number { .. } | Progress::Passing { .. } | Progress::Call { .. } =>
+            unreachable!(),
         Progress::Finishing { back } => Ok((
             Progress::Telling,
             Want::Gives {
@@ -213,6 +212,7 @@ fn holds(relation: u8, a: i32, b: i32) -> bool
 fn relation(level: u32, first: Number, token: Token, meaning: &Meaning) -> (Progress, Want)
     ensures want { result.1 ≡ rest (Progress.Relation level first) token meaning.now Told.Done [] }
     ensures steps { WhileOpen result.1 (Steps (Progress.Relation level first) token meaning.now Told.Done result.0) }
+    ensures plain { is_plain result.0 ≡ true }
 {
     if is_space(meaning) {
         return (Progress::Relation { level, first }, Want::Expanded);
@@ -250,6 +250,7 @@ fn is_space(meaning: &Meaning) -> bool
 fn decided(level: u32, holds: bool) -> (Progress, Want)
     ensures want { result.1 ≡ decided holds level [] }
     ensures steps { WhileOpen result.1 ((x : Taken) (xs : List Taken) → decided holds level (x ∷ xs) ≡ rest_behind result.0 x xs) }
+    ensures plain { is_plain result.0 ≡ true }
 {
     if holds {
         last_act(Act::Choose(level))
@@ -261,6 +262,7 @@ fn decided(level: u32, holds: bool) -> (Progress, Want)
 fn left(level: u32, goes_on: bool) -> (Progress, Want)
     ensures want { result.1 ≡ (if goes_on then false_want level [] else done) }
     ensures steps { WhileOpen result.1 ((x : Taken) (xs : List Taken) → (if goes_on then false_want level (x ∷ xs) else done) ≡ rest_behind result.0 x xs) }
+    ensures plain { is_plain result.0 ≡ true }
 {
     if goes_on {
         (Progress::PassedOver { level }, Want::Inner(Task::PassOver))
@@ -272,6 +274,7 @@ fn left(level: u32, goes_on: bool) -> (Progress, Want)
 fn met(goes_on: bool) -> (Progress, Want)
     ensures want { result.1 ≡ (if goes_on then to_fi_want [] else done) }
     ensures steps { WhileOpen result.1 ((x : Taken) (xs : List Taken) → (if goes_on then to_fi_want (x ∷ xs) else done) ≡ rest_behind result.0 x xs) }
+    ensures plain { is_plain result.0 ≡ true }
 {
     if goes_on {
         (Progress::ToFi, Want::Inner(Task::PassOver))
@@ -283,6 +286,7 @@ fn met(goes_on: bool) -> (Progress, Want)
 fn to_fi(word: u8) -> (Progress, Want)
     ensures want { result.1 ≡ (if word == 0 then only (Want.Act Act.Close) [] else to_fi_want []) }
     ensures steps { WhileOpen result.1 ((x : Taken) (xs : List Taken) → (if word == 0 then only (Want.Act Act.Close) (x ∷ xs) else to_fi_want (x ∷ xs)) ≡ rest_behind result.0 x xs) }
+    ensures plain { is_plain result.0 ≡ true }
 {
     if word == 0 {
         last_act(Act::Close)
@@ -322,6 +326,7 @@ fn name(mut text: Vec<u8>, token: Token, meaning: &Meaning) -> Result<(Progress,
     ensures want { IfOk result (λ r. r.1 ≡ name_by (λ longer. name_from longer []) text.items (byte_of token) meaning.now []) }
     ensures steps { IfOk result (λ r. WhileOpen r.1 ((x : Taken) (xs : List Taken)
         → name_by (λ longer. name_from longer (x ∷ xs)) text.items (byte_of token) meaning.now (x ∷ xs) ≡ rest_behind r.0 x xs)) }
+    ensures plain { IfOk result (λ r. is_plain r.0 ≡ true) }
 {
     match byte_of(token) {
         Some(byte) => {
@@ -362,6 +367,7 @@ fn file_start(
 ) -> Result<(Progress, Want), AllocError>
     ensures want { IfOk result (λ r. r.1 ≡ rest Progress.FileStart token meaning.now Told.Done []) }
     ensures steps { IfOk result (λ r. WhileOpen r.1 (Steps Progress.FileStart token meaning.now Told.Done r.0)) }
+    ensures plain { IfOk result (λ r. is_plain r.0 ≡ true) }
 {
     if is_space(meaning) {
         return Ok((Progress::FileStart, Want::Expanded));
@@ -374,6 +380,7 @@ fn file(mut text: Vec<u8>, token: Token, meaning: &Meaning) -> Result<(Progress,
     ensures want { IfOk result (λ r. r.1 ≡ file_by (λ longer. file_from longer []) text.items (letter_of meaning.now) token) }
     ensures steps { IfOk result (λ r. WhileOpen r.1 ((x : Taken) (xs : List Taken)
         → file_by (λ longer. file_from longer (x ∷ xs)) text.items (letter_of meaning.now) token ≡ rest_behind r.0 x xs)) }
+    ensures plain { IfOk result (λ r. is_plain r.0 ≡ true) }
 {
     match letter_of(meaning) {
         None => Ok((

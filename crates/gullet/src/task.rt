@@ -32,6 +32,13 @@ impl Arguments {
         }
     }
 
+    /// These arguments.
+    pub fn new(lists: Vec<TokenList>) -> Arguments
+        ensures { result ≡ lists.items }
+    {
+        Arguments { lists }
+    }
+
     /// All of them, for the text.
     pub fn into_lists(self) -> Vec<TokenList>
         ensures { result.items ≡ self }

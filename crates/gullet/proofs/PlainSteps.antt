@@ -1,0 +1,80 @@
+-- A plain step takes something up.
+use Rattle.std.proofs.Common.{◌≡◌, true, List, [], ◌∷◌, ◌++◌, Option, Result, Ok, Err, IfOk, refl, sym, ◌∙◌, ap, append_assoc}
+use Rattle.tokens.specs.declared.token.Token.{Token}
+use Rattle.scan_nums.specs.declared.int_scan.IntScan.{IntScan}
+use Rattle.gullet.specs.declared.context.Context.{Context}
+use Rattle.gullet.specs.declared.progress.Progress.{Progress}
+use Rattle.gullet.specs.declared.progress.Progress.TheVariants as progress
+use Rattle.gullet.specs.declared.task.Task.{Task}
+use Rattle.gullet.specs.declared.task.Want.{Want}
+use Rattle.gullet.specs.declared.task.Want.TheVariants.{Raw, Expanded, Character, Act, Inner, Gives, Wrong}
+use Rattle.gullet.specs.Progress.{rest_behind, Follows, WhileOpen, FitsToken, FitsGot, FitsWas, Ready, TakesUp, Steps, is_plain, stands-plain, follows-plain}
+use Rattle.gullet.specs.Wants.{Taken, wants, token_of, meaning_of, told_of}
+
+-- a plain step takes what comes
+fits : (p : Progress) → is_plain p ≡ true → FitsToken p × FitsGot p × FitsWas p
+fits (progress.Number scan last) h = cc
+fits (progress.Passing scan count) h = cc
+fits (progress.Call name called scan) h = cc
+fits _ h = (tt, tt, tt)
+
+pub plain_ready : (want : Want) (p : Progress) → is_plain p ≡ true → Ready want p
+plain_ready Raw p h = (fits p h).0
+plain_ready Expanded p h = (fits p h).0
+plain_ready Character p h = (fits p h).0
+plain_ready (Act act) p h = (fits p h).2
+plain_ready (Inner inner) p h = (fits p h).1
+plain_ready (Gives told back) p h = tt
+plain_ready (Wrong kind) p h = tt
+
+-- a step that takes what an inner phrase or an act told, and is of no number, is plain
+abbrev pub IsNoNumber : Progress → Type 0
+IsNoNumber p = (scan : IntScan) (last : Option Token) → p ≡ progress.Number scan last → ⊥
+
+pub got_is_plain : (p : Progress) → FitsGot p → IsNoNumber p → is_plain p ≡ true
+got_is_plain (progress.Number scan last) takes other = absurd (other scan last refl)
+got_is_plain (progress.Passing scan count) takes other = absurd takes
+got_is_plain (progress.Call name called scan) takes other = absurd takes
+got_is_plain _ takes other = refl
+
+pub was_is_plain : (p : Progress) → FitsWas p → IsNoNumber p → is_plain p ≡ true
+was_is_plain (progress.Number scan last) takes other = absurd (other scan last refl)
+was_is_plain (progress.Passing scan count) takes other = absurd takes
+was_is_plain (progress.Call name called scan) takes other = absurd takes
+was_is_plain _ takes other = refl
+
+while_open_along : (want : Want) (P Q : Type 0) → (P → Q) → WhileOpen want P → WhileOpen want Q
+while_open_along Raw P Q f h = f h
+while_open_along Expanded P Q f h = f h
+while_open_along Character P Q f h = f h
+while_open_along (Act act) P Q f h = f h
+while_open_along (Inner inner) P Q f h = f h
+while_open_along (Gives told back) P Q f h = tt
+while_open_along (Wrong kind) P Q f h = tt
+
+follows_behind : (before after : Progress) (x : Taken) (c : Context) (kind : Task) (taken : List Taken)
+    → Follows before c kind taken → Steps before (token_of x) (meaning_of x) (told_of x) after → Follows after c kind (taken ++ x ∷ [])
+follows_behind before after x c kind taken follows steps = λ y ys.
+    ap (wants c kind) (append_assoc taken (x ∷ []) (y ∷ ys)) ∙ follows x (y ∷ ys) ∙ steps y ys
+
+pub plain_takes_up : (before after : Progress) (x : Taken) (want : Want) → is_plain before ≡ true
+    → want ≡ rest_behind before x [] → WhileOpen want (Steps before (token_of x) (meaning_of x) (told_of x) after)
+    → is_plain after ≡ true → TakesUp before x after want
+plain_takes_up before after x want plain is steps plain_after = record {
+  wants = λ c kind taken stands. is ∙ sym (follows-plain before c kind taken plain stands x []);
+  stands = λ c kind taken stands.
+      while_open_along want _ _
+      (λ s. stands-plain after c kind (taken ++ x ∷ []) plain_after
+      (follows_behind before after x c kind taken (follows-plain before c kind taken plain stands) s))
+      steps;
+  ready = plain_ready want after plain_after;
+}
+
+-- a plain step's answer
+pub step_takes_up : {E : Type 0} (before : Progress) (x : Taken) (result : Result (Progress × Want) E) → is_plain before ≡ true
+    → IfOk result (λ r. r.1 ≡ rest_behind before x [])
+    → IfOk result (λ r. WhileOpen r.1 (Steps before (token_of x) (meaning_of x) (told_of x) r.0))
+    → IfOk result (λ r. is_plain r.0 ≡ true)
+    → IfOk result (λ r. TakesUp before x r.0 r.1)
+step_takes_up before x (Ok r) plain is steps plain_after = plain_takes_up before r.0 x r.1 plain is steps plain_after
+step_takes_up before x (Err e) plain is steps plain_after = tt

@@ -1,0 +1,108 @@
+-- What expansion is asked for from outside: the next token as it stands, the next one that isn't expanded, and a number
+-- (The TeXbook, chapters 20 and 24; tex.web 341, 380 and 440). Behind the end of a file it goes on, and at the end of all
+-- that is to be read there is none.
+use Rattle.std.specs.Prelude.{ℕ, ◌+◌, Bool, true, false, if◌then◌else◌, List, [], ◌∷◌, Option, Some, None, Ok, Err}
+use Rattle.std.proofs.Common.{zero, suc}
+use Rattle.tokens.specs.declared.stop.Stop.TheVariants.{OutOfMemory}
+use Rattle.tokens.specs.declared.token.Token.{Token}
+use Rattle.tokens.specs.declared.token.Token.TheVariants.{Frozen}
+use Rattle.pending.specs.Pending.{Item, Ready, From}
+use Rattle.pending.specs.declared.pending.Event.{Event}
+use Rattle.pending.specs.declared.pending.Event.TheVariants as event
+use Rattle.scan_nums.specs.declared.number.Number.{Number}
+use Rattle.asking.specs.Did.{Did}
+use Rattle.asking.specs.Did as did
+use Rattle.asking.specs.Meaning.{Meant, still, ◌>>=◌}
+use Rattle.asking.specs.Seen.{Outside}
+use Rattle.gullet.specs.declared.next.Sought.{Sought}
+use Rattle.gullet.specs.declared.next.Sought.TheVariants as sought
+use Rattle.gullet.specs.declared.task.Task.{Task}
+use Rattle.gullet.specs.declared.task.Task.TheVariants as task
+use Rattle.gullet.specs.declared.task.Told.{Told}
+use Rattle.gullet.specs.Events.{take_event}
+use Rattle.gullet.specs.Expansion.{outcome, outermost, most_turns}
+use Rattle.gullet.specs.Meanings.{taken_meaning, expansion}
+use Rattle.gullet.specs.State.{State}
+use Rattle.gullet.specs.Wants.{number_told}
+
+-- ---- as it stands
+
+-- how many ends are still told: that of a source, and before it that of its last line, unless that was told
+abbrev pub ends_of : Item → ℕ
+ends_of (Ready waiting) = 0
+ends_of (From source) = if source.is_ending then 1 else 2
+
+abbrev pub ends_left : List Item → ℕ
+ends_left [] = 0
+ends_left (item ∷ items) = ends_of item + ends_left items
+
+-- whether an event is an end, behind which something may be left
+abbrev pub is_end : Event → Bool
+is_end (event.Token t noexpand) = false
+is_end event.Eof = true
+is_end (event.SourceEnd printed) = true
+is_end event.Empty = false
+
+-- the token that came next with its flag, if one did
+abbrev pub raw_of : Event → Option (Token × Bool)
+raw_of (event.Token t noexpand) = Some (t, noexpand)
+raw_of event.Eof = None
+raw_of (event.SourceEnd printed) = None
+raw_of event.Empty = None
+
+-- behind an end it goes on
+abbrev pub by_raw : (State → Did State (Option (Token × Bool))) → Event × State → Did State (Option (Token × Bool))
+by_raw further (e, s) = if is_end e then further s else Ok (raw_of e, s)
+
+-- the next token with its flag, where fewer ends than this stand in front of it
+unfoldable pub raw_past : ℕ → State → Did State (Option (Token × Bool))
+raw_past zero s = Ok (None, s)
+raw_past (suc ends) s = did.◌>>=◌ (take_event s) (by_raw (raw_past ends))
+
+-- the next token; behind each end of a source it goes on
+unfoldable pub next_raw : State → Did State (Option (Token × Bool))
+next_raw s = raw_past (suc (ends_left s.pending)) s
+
+-- ---- with expansion
+
+-- a token that isn't to be expanded is \relax to whoever takes it
+abbrev pub as_taken : Token → Bool → Token
+as_taken t true = Frozen 0
+as_taken t false = t
+
+-- an expansion is read, and what it puts in front is looked at
+abbrev pub expanded : Outside → Task → State → Meant State Sought
+expanded o inner s = outcome o outermost inner s >>= (λ r. still (Ok (sought.Again, r.1)))
+
+abbrev pub by_expansion : Outside → Token → Option Task → State → Meant State Sought
+by_expansion o t None s = still (Ok (sought.Token t, s))
+by_expansion o t (Some inner) s = expanded o inner s
+
+abbrev pub by_sight : Outside → Event × State → Meant State Sought
+by_sight o (event.Token t noexpand, s) = by_expansion o (as_taken t noexpand) (expansion t (taken_meaning s.copies t noexpand)) s
+by_sight o (event.Eof, s) = still (Ok (sought.Again, s))
+by_sight o (event.SourceEnd printed, s) = still (Ok (sought.Again, s))
+by_sight o (event.Empty, s) = still (Ok (sought.Nothing, s))
+
+-- one look at what comes next
+unfoldable pub seek_once : Outside → State → Meant State Sought
+seek_once o s = still (take_event s) >>= by_sight o
+
+abbrev pub behind_look : (State → Meant State (Option Token)) → Sought × State → Meant State (Option Token)
+behind_look further (sought.Again, s) = further s
+behind_look further (sought.Token t, s) = still (Ok (Some t, s))
+behind_look further (sought.Nothing, s) = still (Ok (None, s))
+
+-- the next token that isn't expanded, in so many looks
+unfoldable pub seek : Outside → ℕ → State → Meant State (Option Token)
+seek o zero s = still (Err (OutOfMemory, s))
+seek o (suc looks) s = seek_once o s >>= behind_look (seek o looks)
+
+-- looks are counted as turns are
+unfoldable pub next_expanded : Outside → State → Meant State (Option Token)
+next_expanded o s = seek o most_turns s
+
+-- ---- numbers
+
+unfoldable pub take_number : Outside → State → Meant State Number
+take_number o s = outcome o outermost task.WholeNumber s >>= (λ r. still (Ok (number_told r.0, r.1)))

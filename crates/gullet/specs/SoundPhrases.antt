@@ -1,0 +1,82 @@
+-- What is sound of phrases: their kinds, what they have taken, what they want, and what is done for them.
+use Rattle.std.specs.Prelude.{List, Option, Some, None}
+use Rattle.std.specs.List.{AllByRecursion}
+use Rattle.phrases.specs.Phrases.{Found, More, Again, Inner, Aside, Ends}
+use Rattle.gullet.specs.declared.task.Task.{Task}
+use Rattle.gullet.specs.declared.task.Task.TheVariants as task
+use Rattle.gullet.specs.declared.task.Told.{Told}
+use Rattle.gullet.specs.declared.task.Act.{Act}
+use Rattle.gullet.specs.declared.task.Act.TheVariants as act
+use Rattle.gullet.specs.declared.task.Want.{Want}
+use Rattle.gullet.specs.declared.task.Want.TheVariants as want
+use Rattle.gullet.specs.Sound.{Known, IsSoundBeside, IsSoundToken, AreSoundTokens, IsSoundSome, IsSoundMacro, IsSoundMeaning}
+use Rattle.gullet.specs.Wants.{Taken, Tok, Got, Was}
+
+-- a kind of phrase: the token that it begins with, and the macro that is called
+abbrev pub IsSoundTask : Known → Task → Type 0
+IsSoundTask k task.WholeNumber = Unit {0}
+IsSoundTask k (task.QuantityValue q) = Unit {0}
+IsSoundTask k (task.Undefined t) = IsSoundToken k t
+IsSoundTask k (task.Call name called) = IsSoundToken k name × IsSoundMacro k called
+IsSoundTask k task.ExpandAfter = Unit {0}
+IsSoundTask k task.NumberText = Unit {0}
+IsSoundTask k task.IfNumber = Unit {0}
+IsSoundTask k task.PassOver = Unit {0}
+IsSoundTask k (task.BranchEnd t word) = IsSoundToken k t
+IsSoundTask k task.NameText = Unit {0}
+IsSoundTask k (task.Input t) = IsSoundToken k t
+IsSoundTask k task.FileName = Unit {0}
+
+abbrev pub IsSoundSomeTask : Known → Option Task → Type 0
+IsSoundSomeTask k None = Unit {0}
+IsSoundSomeTask k (Some inner) = IsSoundTask k inner
+
+-- what is told has no tokens
+abbrev pub IsSoundTold : Known → Told → Type 0
+IsSoundTold k tells = Unit {0}
+
+-- a token that was taken, and its meaning
+abbrev pub IsSoundTaken : Known → Taken → Type 0
+IsSoundTaken k (Tok t m) = IsSoundToken k t × IsSoundMeaning k m
+IsSoundTaken k (Got tells) = IsSoundTold k tells
+IsSoundTaken k (Was tells) = IsSoundTold k tells
+
+abbrev pub AreSoundTaken : Known → List Taken → Type 0
+AreSoundTaken k taken = AllByRecursion (IsSoundTaken k) taken
+
+-- what is done: the tokens that are put in front or named. Of a macro's text and its arguments only the former may have
+-- signs of arguments
+abbrev pub IsSoundAct : Known → Act → Type 0
+IsSoundAct k (act.Return t) = IsSoundToken k t
+IsSoundAct k (act.InsertRelax t) = IsSoundToken k t
+IsSoundAct k (act.Pass kind back) = IsSoundSome k back
+IsSoundAct k (act.PassUndefined t) = IsSoundToken k t
+IsSoundAct k (act.Look q) = Unit {0}
+IsSoundAct k (act.LookRegister code n) = Unit {0}
+IsSoundAct k (act.Digits n) = Unit {0}
+IsSoundAct k (act.Text body arguments) = AllByRecursion (IsSoundBeside (λ number. Unit {0}) k) body × AllByRecursion (AreSoundTokens k) arguments
+IsSoundAct k (act.Refuse name refusal) = IsSoundToken k name
+IsSoundAct k (act.Open kind) = Unit {0}
+IsSoundAct k (act.Choose level) = Unit {0}
+IsSoundAct k (act.Leave word level) = Unit {0}
+IsSoundAct k act.Close = Unit {0}
+IsSoundAct k (act.Meet t word) = IsSoundToken k t
+IsSoundAct k (act.MakeName text) = Unit {0}
+IsSoundAct k (act.ReadFile name) = Unit {0}
+
+abbrev pub IsSoundWant : Known → Want → Type 0
+IsSoundWant k want.Raw = Unit {0}
+IsSoundWant k want.Expanded = Unit {0}
+IsSoundWant k want.Character = Unit {0}
+IsSoundWant k (want.Act act) = IsSoundAct k act
+IsSoundWant k (want.Inner inner) = IsSoundTask k inner
+IsSoundWant k (want.Gives tells back) = IsSoundSome k back
+IsSoundWant k (want.Wrong kind) = Unit {0}
+
+-- what a turn finds
+abbrev pub IsSoundFound : Known → Found Task Taken Told → Type 0
+IsSoundFound k (More x) = IsSoundTaken k x
+IsSoundFound k Again = Unit {0}
+IsSoundFound k (Inner inner) = IsSoundTask k inner
+IsSoundFound k (Aside inner) = IsSoundTask k inner
+IsSoundFound k (Ends tells) = IsSoundTold k tells

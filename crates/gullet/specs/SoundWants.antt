@@ -1,0 +1,275 @@
+-- What phrases want of what is sound, is sound.
+use Rattle.std.specs.Prelude.{ℕ, ◌==◌, ◌++◌, Bool, true, false, List, [], ◌∷◌, map, Option, Some, None}
+use Rattle.std.specs.List.{AllByRecursion}
+use Rattle.tokens.specs.Codes.{input_code, expandafter_code, csname_code, number_code, ifnum_code, else_code, or_code, fi_code}
+use Rattle.tokens.specs.declared.kind.Kind.TheVariants.{MissingEndcsname}
+use Rattle.tokens.specs.declared.token.Token.{Token}
+use Rattle.tokens.specs.declared.token.Token.TheVariants as token
+use Rattle.tokens.specs.declared.meaning.Macro.{Macro}
+use Rattle.tokens.specs.declared.meaning.Meaning.{Meaning}
+use Rattle.tokens.specs.declared.meaning.Meaning.TheVariants as meaning
+use Rattle.scan_nums.specs.declared.number.Number.{Number}
+use Rattle.scan_nums.specs.declared.number.Quantity.{Quantity}
+use Rattle.scan_nums.specs.declared.verdict.Verdict.{Verdict}
+use Rattle.scan_nums.specs.declared.verdict.Verdict.TheVariants as verdict
+use Rattle.scan_nums.specs.Number.{first_number}
+use Rattle.scan_nums.specs.Starts.{is_space}
+use Rattle.scan_nums.specs.WholeNumber.{whole_number, wants_character}
+use Rattle.macro_args.specs.Arguments.{Use, Open, Complete, Unfit, use_of}
+use Rattle.conditionals.specs.Branches.{Stopping, stop_of}
+use Rattle.gullet.specs.declared.context.Context.{Context}
+use Rattle.gullet.specs.declared.task.Task.{Task}
+use Rattle.gullet.specs.declared.task.Task.TheVariants as task
+use Rattle.gullet.specs.declared.task.Told.{Told}
+use Rattle.gullet.specs.declared.task.Told.TheVariants as told
+use Rattle.gullet.specs.declared.task.Act.TheVariants as act
+use Rattle.gullet.specs.declared.task.Want.{Want}
+use Rattle.gullet.specs.declared.task.Want.TheVariants as want
+use Rattle.gullet.specs.declared.task.BranchWord.{BranchWord}
+use Rattle.gullet.specs.Meanings.{expansion, expansion_of_code}
+use Rattle.gullet.specs.Wants
+use Rattle.gullet.specs.Wants.{Taken, Tok, Got, Was, done, scanned, last_token, given_back, number_want, told_of, goes_on, word_told, token_of, byte_of, letter_of, only, relation_of, tokens_in, was_done, matching, wants}
+use Rattle.gullet.specs.Sound.{Known, IsSoundBeside, IsParameter, IsSoundToken, AreSoundTokens, IsSoundSome, IsSoundMacro, IsSoundMeaning}
+use Rattle.gullet.specs.SoundPhrases.{IsSoundTask, IsSoundSomeTask, IsSoundTaken, AreSoundTaken, IsSoundWant}
+use Rattle.gullet.specs.SoundKept.{either, each_map}
+use Rattle.gullet.specs.SoundArguments.{UseHolds, use_holds}
+
+module _ (k : Known) where
+  -- ---- what was taken
+
+  last_sound : (taken : List Taken) → AreSoundTaken k taken → IsSoundSome k (last_token taken)
+  unfolding last_token
+  last_sound [] h = tt
+  last_sound (Tok t m ∷ []) h = h.0.0
+  last_sound (Got tells ∷ []) h = tt
+  last_sound (Was tells ∷ []) h = tt
+  last_sound (Tok t m ∷ y ∷ rest) h = last_sound (y ∷ rest) h.1
+  last_sound (Got tells ∷ y ∷ rest) h = last_sound (y ∷ rest) h.1
+  last_sound (Was tells ∷ y ∷ rest) h = last_sound (y ∷ rest) h.1
+
+  token_of_sound : (x : Taken) → IsSoundTaken k x → IsSoundToken k (token_of x)
+  token_of_sound (Tok t m) h = h.0
+  token_of_sound (Got tells) h = tt
+  token_of_sound (Was tells) h = tt
+
+  meaning_of_sound : (x : Taken) → IsSoundTaken k x → IsSoundMeaning k (Wants.meaning_of x)
+  meaning_of_sound (Tok t m) h = h.1
+  meaning_of_sound (Got tells) h = tt
+  meaning_of_sound (Was tells) h = tt
+
+  in_sound : (taken : List Taken) → AreSoundTaken k taken → AreSoundTokens k (tokens_in taken)
+  in_sound [] h = tt
+  in_sound (Tok t m ∷ taken) h = (h.0.0, in_sound taken h.1)
+  in_sound (Got tells ∷ taken) h = in_sound taken h.1
+  in_sound (Was tells ∷ taken) h = in_sound taken h.1
+
+  -- ---- expansions
+
+  code_sound : (t : Token) (code : ℕ) → IsSoundToken k t → IsSoundSomeTask k (expansion_of_code t code)
+  code_sound t code h =
+      either (IsSoundSomeTask k) (code == input_code) _ _ h
+      (either (IsSoundSomeTask k) (code == expandafter_code) _ _ tt
+      (either (IsSoundSomeTask k) (code == csname_code) _ _ tt
+      (either (IsSoundSomeTask k) (code == number_code) _ _ tt
+      (either (IsSoundSomeTask k) (code == ifnum_code) _ _ tt
+      (either (IsSoundSomeTask k) (code == else_code) _ _ h
+      (either (IsSoundSomeTask k) (code == or_code) _ _ h
+      (either (IsSoundSomeTask k) (code == fi_code) _ _ h tt)))))))
+
+  pub expansion_sound : (t : Token) (m : Meaning) → IsSoundToken k t → IsSoundMeaning k m → IsSoundSomeTask k (expansion t m)
+  expansion_sound t meaning.Undefined h g = h
+  expansion_sound t (meaning.Primitive code) h g = code_sound t code h
+  expansion_sound t (meaning.Macro m) h g = (h, g)
+  expansion_sound t (meaning.Char cat byte) h g = tt
+  expansion_sound t (meaning.CharDef byte) h g = tt
+  expansion_sound t (meaning.MathCharDef number) h g = tt
+  expansion_sound t (meaning.Register kind number) h g = tt
+  expansion_sound t (meaning.Font font) h g = tt
+
+  -- ---- numbers and quantities
+
+  given_sound : (back : ℕ) (last : Option Token) → IsSoundSome k last → IsSoundSome k (given_back back last)
+  given_sound back last h = either (IsSoundSome k) (back == 0) None last tt h
+
+  number_sound : (v : Verdict) (is_character : Bool) (last : Option Token) → IsSoundSome k last → IsSoundWant k (number_want v is_character last)
+  number_sound verdict.Need true last h = tt
+  number_sound verdict.Need false last h = tt
+  number_sound (verdict.Ask q) is_character last h = tt
+  number_sound (verdict.Sub phrase) is_character last h = tt
+  number_sound (verdict.Done n) is_character last h = tt
+  number_sound (verdict.DoneBefore n back) is_character last h = given_sound back last h
+  number_sound (verdict.Trouble kind) is_character last h = tt
+  number_sound (verdict.Pass kind back) is_character last h = given_sound back last h
+
+  only_sound : (w : Want) (taken : List Taken) → IsSoundWant k w → IsSoundWant k (only w taken)
+  only_sound w [] h = h
+  only_sound w (x ∷ rest) h = tt
+
+  numbered_sound : (code : ℕ) (number : Told) (taken : List Taken) → IsSoundWant k (Wants.register_numbered code number taken)
+  numbered_sound code number [] = tt
+  numbered_sound code number (x ∷ rest) = tt
+
+  register_sound : (code : ℕ) (taken : List Taken) → IsSoundWant k (Wants.register_want code taken)
+  register_sound code [] = tt
+  register_sound code (x ∷ rest) = numbered_sound code (told_of x) rest
+
+  looked_sound : (q : Quantity) (taken : List Taken) → IsSoundWant k (Wants.looked_up q taken)
+  looked_sound q [] = tt
+  looked_sound q (x ∷ rest) = tt
+
+  quantity_sound : (q : Quantity) (place : Option ℕ) (taken : List Taken) → IsSoundWant k (Wants.quantity_by q place taken)
+  quantity_sound q None taken =
+      either (IsSoundWant k) (Wants.is_register_code q.code) (Wants.register_want q.code taken) (Wants.looked_up q taken) (register_sound q.code taken) (looked_sound q taken)
+  quantity_sound q (Some place) taken = looked_sound q taken
+
+  -- ---- \expandafter and \number
+
+  second_sound : (second : Token) (inner : Option Task) → IsSoundToken k second → IsSoundSomeTask k inner → IsSoundWant k (Wants.expand_second second inner)
+  second_sound second None h g = h
+  second_sound second (Some inner) h g = g
+
+  behind_second_sound : (first : Token) (w : Want) (taken : List Taken) → IsSoundToken k first → IsSoundWant k w → IsSoundWant k (Wants.behind_second first w taken)
+  behind_second_sound first w [] h g = g
+  behind_second_sound first w (x ∷ rest) h g = h
+
+  behind_first_sound : (first : Token) (taken : List Taken) → IsSoundToken k first → AreSoundTaken k taken → IsSoundWant k (Wants.behind_first first taken)
+  behind_first_sound first [] h g = tt
+  behind_first_sound first (x ∷ rest) h g =
+      behind_second_sound first (Wants.second_want (token_of x) (Wants.meaning_of x)) rest h
+      (second_sound (token_of x) (expansion (token_of x) (Wants.meaning_of x)) (token_of_sound x g.0)
+      (expansion_sound (token_of x) (Wants.meaning_of x) (token_of_sound x g.0) (meaning_of_sound x g.0)))
+
+  expand_after_sound : (taken : List Taken) → AreSoundTaken k taken → IsSoundWant k (Wants.expand_after_want taken)
+  expand_after_sound [] h = tt
+  expand_after_sound (x ∷ rest) h = behind_first_sound (token_of x) rest (token_of_sound x h.0) h.1
+
+  number_text_sound : (taken : List Taken) → IsSoundWant k (Wants.number_text_want taken)
+  number_text_sound [] = tt
+  number_text_sound (x ∷ rest) = only_sound (want.Act (act.Digits (Wants.number_told (told_of x)))) rest tt
+
+  -- ---- conditions
+
+  pass_over_sound : (stop : Option Stopping) → IsSoundWant k (Wants.pass_over_by stop)
+  pass_over_sound None = tt
+  pass_over_sound (Some stop) = tt
+
+  false_sound : (level : ℕ) (taken : List Taken) → IsSoundWant k (Wants.false_want level taken)
+  false_sound level [] = tt
+  false_sound level (x ∷ []) = tt
+  false_sound level (x ∷ y ∷ rest) = either (IsSoundWant k) (goes_on (told_of y)) (Wants.false_want level rest) done (false_sound level rest) tt
+
+  decided_sound : (b : Bool) (level : ℕ) (taken : List Taken) → IsSoundWant k (Wants.decided b level taken)
+  decided_sound true level taken = only_sound (want.Act (act.Choose level)) taken tt
+  decided_sound false level taken = false_sound level taken
+
+  compared_sound : (level relation : ℕ) (a : Number) (taken : List Taken) → IsSoundWant k (Wants.compared level relation a taken)
+  compared_sound level relation a [] = tt
+  compared_sound level relation a (x ∷ rest) = decided_sound (Wants.holds relation (first_number a) (first_number (Wants.number_told (told_of x)))) level rest
+
+  by_relation_sound : (level : ℕ) (a : Number) (relation : Option ℕ) (taken : List Taken) → IsSoundWant k (Wants.by_relation level a relation taken)
+  by_relation_sound level a None taken = tt
+  by_relation_sound level a (Some relation) taken = compared_sound level relation a taken
+
+  relation_sound : (level : ℕ) (a : Number) (taken : List Taken) → IsSoundWant k (Wants.relation_want level a taken)
+  relation_sound level a [] = tt
+  relation_sound level a (x ∷ rest) =
+      either (IsSoundWant k) (is_space (Wants.meaning_of x)) (Wants.relation_want level a rest) (Wants.by_relation level a (relation_of (token_of x)) rest)
+      (relation_sound level a rest) (by_relation_sound level a (relation_of (token_of x)) rest)
+
+  first_number_sound : (level : ℕ) (taken : List Taken) → IsSoundWant k (Wants.first_number_want level taken)
+  first_number_sound level [] = tt
+  first_number_sound level (x ∷ rest) = relation_sound level (Wants.number_told (told_of x)) rest
+
+  if_number_sound : (taken : List Taken) → IsSoundWant k (Wants.if_number_want taken)
+  if_number_sound [] = tt
+  if_number_sound (x ∷ rest) = first_number_sound (Wants.level_told (told_of x)) rest
+
+  to_fi_sound : (taken : List Taken) → IsSoundWant k (Wants.to_fi_want taken)
+  to_fi_sound [] = tt
+  to_fi_sound (x ∷ rest) =
+      either (IsSoundWant k) (word_told (told_of x) == 0) (only (want.Act act.Close) rest) (Wants.to_fi_want rest) (only_sound (want.Act act.Close) rest tt) (to_fi_sound rest)
+
+  branch_end_sound : (t : Token) (word : BranchWord) (taken : List Taken) → IsSoundToken k t → IsSoundWant k (Wants.branch_end_want t word taken)
+  branch_end_sound t word [] h = h
+  branch_end_sound t word (x ∷ rest) h = either (IsSoundWant k) (goes_on (told_of x)) (Wants.to_fi_want rest) done (to_fi_sound rest) tt
+
+  -- ---- names and files
+
+  name_ended_sound : (text : List ℕ) (m : Meaning) (taken : List Taken) → IsSoundWant k (Wants.name_ended text m taken)
+  name_ended_sound text m taken =
+      either (IsSoundWant k) (Wants.is_end_of_name m) (only (want.Act (act.MakeName text)) taken) (want.Wrong MissingEndcsname) (only_sound (want.Act (act.MakeName text)) taken tt) tt
+
+  name_by_sound : (further : List ℕ → Want) (text : List ℕ) (byte : Option ℕ) (m : Meaning) (taken : List Taken)
+      → ((longer : List ℕ) → IsSoundWant k (further longer)) → IsSoundWant k (Wants.name_by further text byte m taken)
+  name_by_sound further text None m taken h = name_ended_sound text m taken
+  name_by_sound further text (Some byte) m taken h = h (text ++ byte ∷ [])
+
+  name_sound : (text : List ℕ) (taken : List Taken) → IsSoundWant k (Wants.name_from text taken)
+  name_sound text [] = tt
+  name_sound text (x ∷ rest) =
+      name_by_sound (λ longer. Wants.name_from longer rest) text (byte_of (token_of x)) (Wants.meaning_of x) rest (λ longer. name_sound longer rest)
+
+  file_by_sound : (further : List ℕ → Want) (text : List ℕ) (byte : Option ℕ) (t : Token) → IsSoundToken k t
+      → ((longer : List ℕ) → IsSoundWant k (further longer)) → IsSoundWant k (Wants.file_by further text byte t)
+  file_by_sound further text None t h g = h
+  file_by_sound further text (Some byte) t h g =
+      either (IsSoundWant k) (byte == 32) (want.Gives (told.Text text) None) (further (text ++ byte ∷ [])) tt (g (text ++ byte ∷ []))
+
+  file_from_sound : (text : List ℕ) (taken : List Taken) → AreSoundTaken k taken → IsSoundWant k (Wants.file_from text taken)
+  file_from_sound text [] h = tt
+  file_from_sound text (x ∷ rest) h =
+      file_by_sound (λ longer. Wants.file_from longer rest) text (letter_of (Wants.meaning_of x)) (token_of x) (token_of_sound x h.0) (λ longer. file_from_sound longer rest h.1)
+
+  file_sound : (taken : List Taken) → AreSoundTaken k taken → IsSoundWant k (Wants.file_want taken)
+  file_sound [] h = tt
+  file_sound (x ∷ rest) h =
+      either (IsSoundWant k) (is_space (Wants.meaning_of x)) (Wants.file_want rest) (Wants.file_from [] (x ∷ rest)) (file_sound rest h.1) (file_from_sound [] (x ∷ rest) h)
+
+  input_sound : (t : Token) (naming : Bool) (taken : List Taken) → IsSoundToken k t → IsSoundWant k (Wants.input_by t naming taken)
+  input_sound t true taken h = only_sound (want.Act (act.InsertRelax t)) taken h
+  input_sound t false [] h = tt
+  input_sound t false (x ∷ rest) h = only_sound (want.Act (act.ReadFile (Wants.text_told (told_of x)))) rest tt
+
+  -- ---- macro calls
+
+  behind_use_sound : (w : Want) (is_done : Bool) (behind : List Token) → IsSoundWant k w → IsSoundWant k (Wants.behind_use w is_done behind)
+  behind_use_sound w true behind h = tt
+  behind_use_sound w false [] h = h
+  behind_use_sound w false (t ∷ behind) h = tt
+
+  body_sound : (called : Macro) → IsSoundMacro k called → AllByRecursion (IsSoundBeside (λ number. Unit {0}) k) called.body
+  body_sound called h = each_map (IsSoundBeside (IsParameter called) k) (IsSoundBeside (λ number. Unit {0}) k) weaker called.body h.body
+    where
+      weaker : (t : Token) → IsSoundBeside (IsParameter called) k t → IsSoundBeside (λ number. Unit {0}) k t
+      weaker (token.Char cat byte) h = h
+      weaker (token.Active byte) h = h
+      weaker (token.Name id) h = h
+      weaker (token.Arg number) h = tt
+      weaker (token.Frozen number) h = h
+
+  used_sound : (name : Token) (called : Macro) (is_done : Bool) (used : Use) → IsSoundToken k name → IsSoundMacro k called → UseHolds (IsSoundToken k) used
+      → IsSoundWant k (Wants.used_by name called is_done used)
+  used_sound name called is_done Open h g u = tt
+  used_sound name called is_done (Complete arguments behind) h g u =
+      behind_use_sound (want.Act (act.Text called.body arguments)) is_done behind (body_sound called g, u)
+  used_sound name called is_done (Unfit refusal behind) h g u = behind_use_sound (want.Act (act.Refuse name refusal)) is_done behind h
+
+  -- ---- all kinds
+
+  pub wants_sound : (c : Context) (kind : Task) (taken : List Taken) → IsSoundTask k kind → AreSoundTaken k taken → IsSoundWant k (wants c kind taken)
+  unfolding wants
+  wants_sound c task.WholeNumber taken h g =
+      number_sound (whole_number (map scanned taken)) (wants_character (map scanned taken)) (last_token taken) (last_sound taken g)
+  wants_sound c (task.QuantityValue q) taken h g = quantity_sound q q.index taken
+  wants_sound c (task.Undefined t) taken h g = only_sound (want.Act (act.PassUndefined t)) taken h
+  wants_sound c (task.Call name called) taken h g =
+      used_sound name called (was_done taken) (use_of (matching called) called.params (tokens_in taken)) h.0 h.1
+      (use_holds (IsSoundToken k) (matching called) called.params (tokens_in taken) (in_sound taken g))
+  wants_sound c task.ExpandAfter taken h g = expand_after_sound taken g
+  wants_sound c task.NumberText taken h g = number_text_sound taken
+  wants_sound c task.IfNumber taken h g = if_number_sound taken
+  wants_sound c task.PassOver taken h g = pass_over_sound (stop_of 0 (map Wants.meaning_of taken))
+  wants_sound c (task.BranchEnd t word) taken h g = branch_end_sound t word taken h
+  wants_sound c task.NameText taken h g = name_sound [] taken
+  wants_sound c (task.Input t) taken h g = input_sound t c.naming taken h
+  wants_sound c task.FileName taken h g = file_sound taken g
