@@ -1,5 +1,5 @@
 -- What is answered once a list is measured and its sizes are known.
-use Rattle.std.proofs.Common.{◌≡◌, ℕ, ◌+◌, ◌==◌, length, [], ◌∷◌, pos, Bool, true, false, ◌||◌, ℤ, ◌-ℤ◌, List, Result, Ok, Err, if◌then◌else◌, ◌∙◌, ap, refl, arith}
+use Rattle.std.proofs.Common.{◌≡◌, ℕ, ◌+◌, ◌==◌, length, [], ◌∷◌, pos, Bool, true, false, ◌||◌, ℤ, ◌-ℤ◌, List, Ok, Err, if◌then◌else◌, ◌∙◌, ap, refl, arith}
 use Rattle.tokens.specs.declared.cap.Cap.TheVariants.{BoxNesting, Items, BoxSize}
 use Rattle.tokens.specs.declared.stop.Stop.{Stop}
 use Rattle.tokens.specs.declared.stop.Stop.TheVariants.{Capacity}

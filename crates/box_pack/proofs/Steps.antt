@@ -14,8 +14,8 @@ use Rattle.box_pack.specs.declared.horizontal.Sizes as horizontal
 use Rattle.box_pack.specs.declared.vertical.Sizes as vertical
 use Rattle.box_pack.specs.PackingSums.{total, greatest, last_number}
 use Rattle.box_pack.specs.PackingFlexibility.{by_order, stretch_for, shrink_for, stretch_in, shrink_in, stretches, shrinks, glue_of}
-use Rattle.box_pack.specs.PackingHorizontal.{reach_of, no_reach, natural_width, natural_height, natural_depth}
-use Rattle.box_pack.specs.PackingVertical.{drop_of, no_drop, length_of, width_of, hanging_of}
+use Rattle.box_pack.specs.PackingHorizontal.{reach_of, no_reach}
+use Rattle.box_pack.specs.PackingVertical.{drop_of, no_drop}
 use Rattle.box_pack.specs.GlueSums.{with_more, stretched_by, shrunk_by, glue_with, glue_totals}
 use Rattle.box_pack.specs.HorizontalSizes as hbox
 use Rattle.box_pack.specs.VerticalSizes as vbox

@@ -1,5 +1,5 @@
 -- Packed boxes tell what their lists give.
-use Rattle.std.proofs.Common.{◌≡◌, ◌+◌, min, Bool, true, false, ◌||◌, ℤ, ◌-ℤ◌, List, Result, Ok, Err, IfOk, All, if◌then◌else◌, refl, subst, sym, arith}
+use Rattle.std.proofs.Common.{◌≡◌, Bool, true, false, ◌||◌, ℤ, ◌-ℤ◌, List, Result, Ok, Err, IfOk, All, if◌then◌else◌, refl, subst, sym, arith}
 use Rattle.std.proofs.lemmas.Bool.Decides.{nat_tests}
 use Rattle.tokens.specs.declared.cap.Cap.TheVariants.{BoxNesting, Items, BoxSize}
 use Rattle.tokens.specs.declared.stop.Stop.{Stop}
@@ -7,16 +7,14 @@ use Rattle.tokens.specs.declared.stop.Stop.TheVariants.{Capacity}
 use Rattle.nodes.specs.declared.node.Node.{Node}
 use Rattle.nodes.specs.declared.node.Node.TheOpen.{Node-F}
 use Rattle.nodes.specs.declared.node.Node.TheVariants.{Boxed, rolls-Boxed}
-use Rattle.nodes.specs.PackingMeasure.{nesting_of, count_of}
 use Rattle.nodes.specs.PackingTree.{TellsOfItsList, IsTold}
 use Rattle.nodes.specs.PackingTold.{told_trees_are_built}
 use Rattle.box_pack.specs.declared.extent.Extent.{Extent}
-use Rattle.box_pack.specs.declared.goal.Goal.{Goal}
 use Rattle.box_pack.specs.declared.packed.Packed.{Packed}
 use Rattle.box_pack.specs.PackingHorizontal.{natural_width}
 use Rattle.box_pack.specs.PackingVertical.{height_within, top_height}
 use Rattle.box_pack.specs.PackingLimits.{is_too_deep, is_too_long, is_too_large, is_large}
-use Rattle.box_pack.specs.PackingBoxes.{size_for, packed_over, hbox_extent, hpacked, vbox_extent, vpacked, moved_extent, moved_to, moved_down, with_extent, vtopped}
+use Rattle.box_pack.specs.PackingBoxes.{size_for, packed_over, hbox_extent, vbox_extent, vpacked, moved_extent, moved_down, with_extent}
 use Rattle.box_pack.specs.PackingTells.{TellsOf, HboxesTell, VboxesTell, VtopsTell}
 
 tells_of : (list : List Node) (packed : Packed) → packed.boxed.list ≡ list → TellsOfItsList packed.boxed → TellsOf list packed

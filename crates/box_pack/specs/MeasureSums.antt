@@ -1,6 +1,6 @@
 -- How nesting and count of a list are kept while it is gone along, and what one more node makes of them.
 -- From: the limits `box nesting` and `list items`, which are rules of this program.
-use Rattle.std.specs.Prelude.{ℕ, ◌+◌, min, max, nat_lt, List, Result, Ok, Err, if◌then◌else◌}
+use Rattle.std.specs.Prelude.{◌+◌, min, max, nat_lt, List, Result, Ok, Err, if◌then◌else◌}
 use Rattle.tokens.specs.declared.cap.Cap.TheVariants.{BoxNesting, Items}
 use Rattle.tokens.specs.declared.stop.Stop.{Stop}
 use Rattle.tokens.specs.declared.stop.Stop.TheVariants.{Capacity}

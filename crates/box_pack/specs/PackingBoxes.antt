@@ -1,7 +1,7 @@
 -- The boxes that a list is packed to, and when it isn't.
 -- From: The TeXbook, chapter 12; tex.web, sections 644 to 649, 657, 668, 672 and 1087. The three limits are rules of this
 -- program, and so is their order.
-use Rattle.std.specs.Prelude.{ℕ, ◌+◌, Bool, true, false, ◌||◌, ℤ, pos, ◌+ℤ◌, ◌-ℤ◌, List, [], ◌∷◌, Result, Ok, Err, if◌then◌else◌}
+use Rattle.std.specs.Prelude.{◌+◌, Bool, true, false, ◌||◌, ℤ, pos, ◌+ℤ◌, ◌-ℤ◌, List, [], ◌∷◌, Result, Ok, Err, if◌then◌else◌}
 use Rattle.tokens.specs.declared.cap.Cap.TheVariants.{BoxNesting, Items, BoxSize}
 use Rattle.tokens.specs.declared.stop.Stop.{Stop}
 use Rattle.tokens.specs.declared.stop.Stop.TheVariants.{Capacity}

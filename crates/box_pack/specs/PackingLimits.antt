@@ -1,7 +1,7 @@
 -- The limits of boxes.
 -- From: the limits `box nesting`, `list items` and `dimension`, which are rules of this program; tex.web, section 421, has
 -- the greatest dimension.
-use Rattle.std.specs.Prelude.{ℕ, ◌+◌, nat_lt, Bool, ◌||◌, ℤ, ◌-ℤ◌, unsigned_abs, List, Result, Ok, Err, if◌then◌else◌}
+use Rattle.std.specs.Prelude.{◌+◌, nat_lt, Bool, ◌||◌, ℤ, ◌-ℤ◌, unsigned_abs, List, Result, Ok, Err, if◌then◌else◌}
 use Rattle.tokens.specs.declared.cap.Cap.TheVariants.{BoxNesting, Items, BoxSize}
 use Rattle.tokens.specs.declared.stop.Stop.{Stop}
 use Rattle.tokens.specs.declared.stop.Stop.TheVariants.{Capacity}

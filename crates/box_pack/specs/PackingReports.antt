@@ -5,7 +5,6 @@
 -- too; overfull ones where their excess is above \hfuzz or \vfuzz, or where \hbadness or \vbadness is below 100.
 use Rattle.std.specs.Prelude.{ℕ, ℤ, pos, neg_ℤ, ◌-ℤ◌, nat_lt, if◌then◌else◌}
 use Rattle.std.specs.Int.{int_min}
-use Rattle.scaled.specs.declared.spacing.Order.{Order}
 use Rattle.scaled.specs.declared.spacing.Order.TheVariants.{Normal, Fil, Fill, Filll}
 use Rattle.scaled.specs.ArithmeticBadness.{badness_of}
 use Rattle.box_pack.specs.declared.report.Report.{Report}

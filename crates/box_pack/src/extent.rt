@@ -14,7 +14,7 @@ pub(crate) struct Extent {
 }
 
 impl Extent {
-    ghost use Rattle.box_pack.specs.PackingExtents.{nowhere, given, rule_extent, extent_in, leaders_extent};
+    ghost use Rattle.box_pack.specs.PackingExtents.{nowhere, rule_extent, extent_in, leaders_extent};
 
     fn nowhere() -> Extent
         ensures { result ≡ nowhere }

@@ -1,7 +1,7 @@
 //! How the glue of a box is set, how bad that is, and what is to be reported of it (`tex.web`, sections 657 to 667 and 672
 //! to 678).
 
-ghost use Rattle.std.specs.Prelude.{◌≡◌, ◌<ℤ◌, ◌≤ℤ◌, ◌^◌, pos, neg_ℤ};
+ghost use Rattle.std.specs.Prelude.{◌≡◌, ◌<ℤ◌, ◌^◌, pos, neg_ℤ};
 ghost use Rattle.box_pack.specs.PackingSetting.{setting_of, stretched_setting, shrunk_setting, finite_setting, set_by, unset, Shrunk, Overfull};
 ghost use Rattle.box_pack.specs.PackingReports.{stretched_report, too_large};
 ghost use Rattle.box_pack.specs.GlueSums.{IsWithin, EachWithin, BothWithin};

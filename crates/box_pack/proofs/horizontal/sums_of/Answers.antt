@@ -1,4 +1,4 @@
-use Rattle.std.proofs.Common.{◌≡◌, ◌*◌, ◌+◌, ◌<◌, ◌∙◌, Err, length, ap, sym, arith, rules}
+use Rattle.std.proofs.Common.{◌*◌, ◌+◌, ◌<◌, ◌∙◌, Err, length, ap, sym, arith, rules}
 use Rattle.box_pack.specs.MeasureSums.{with_measured}
 use Rattle.box_pack.specs.HorizontalSizes.{with_node}
 use Rattle.box_pack.proofs.Counts.{list_measure-more, first_passed-is}

@@ -1,4 +1,4 @@
-use Rattle.std.proofs.Common.{◌≡◌, ℤ, ◌-ℤ◌, Result, Ok, Err, ◌∙◌, ap, sym, rules}
+use Rattle.std.proofs.Common.{◌≡◌, ℤ, ◌-ℤ◌, Ok, Err, ◌∙◌, ap, sym, rules}
 use Rattle.std.proofs.lemmas.Int.{to_z-of_z}
 use Rattle.std.specs.Int.RustNames.{FitsSigned}
 use mir.Syntax.{w32, w64}

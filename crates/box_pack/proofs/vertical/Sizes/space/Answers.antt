@@ -1,4 +1,4 @@
-use Rattle.std.proofs.Common.{◌+◌, sym, subst, arith, rules}
+use Rattle.std.proofs.Common.{◌+◌, sym, subst, arith}
 use Rattle.std.proofs.lemmas.Int.{ints, clamps}
 use Rattle.box_pack.specs.GlueSums.{IsWithin}
 use Rattle.box_pack.proofs.Within.{stored, BothWithin-le}

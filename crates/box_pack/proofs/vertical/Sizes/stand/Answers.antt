@@ -1,12 +1,11 @@
-use Rattle.std.proofs.Common.{◌≡◌, ◌+◌, ◌+ℤ◌, ◌∙◌, sym, subst, arith, rules}
+use Rattle.std.proofs.Common.{◌≡◌, ◌+◌, ◌+ℤ◌, ◌∙◌, arith, rules}
 use Rattle.std.proofs.lemmas.Int.{ints, clamps, to_z-of_z}
 use Rattle.std.specs.Int.{int_max}
 use Rattle.std.specs.Int.RustNames.{FitsSigned}
 use mir.Syntax.{w64}
 use mir.Val.{to_z, of_z}
-use Rattle.box_pack.specs.GlueSums.{IsWithin}
 use Rattle.box_pack.proofs.Steps.{same_vertical}
-use Rattle.box_pack.proofs.Within.{stored, BothWithin-le}
+use Rattle.box_pack.proofs.Within.{BothWithin-le}
 use Rattle.box_pack.proofs.vertical.Sizes.stand.Goals as goal
 
 pub returns-clause-value : goal.returns-clause-value
