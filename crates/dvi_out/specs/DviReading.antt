@@ -41,77 +41,77 @@ at_start = reader (kept (pos 0) (pos 0) (pos 0) (pos 0) (pos 0) (pos 0)) [] 0 []
 
 -- ---- what a command does
 
-abbrev at_place : Kept → Reader → Reader
+abbrev pub at_place : Kept → Reader → Reader
 at_place now r = reader now r.stack r.font r.counts r.items r.pages
 
-abbrev moved : ℤ → ℤ → Kept → Kept
+abbrev pub moved : ℤ → ℤ → Kept → Kept
 moved by_h by_v k = kept (int_wrap w32 (k.h +ℤ by_h)) (int_wrap w32 (k.v +ℤ by_v)) k.w k.x k.y k.z
 
-abbrev go_right : ℤ → Reader → Reader
+abbrev pub go_right : ℤ → Reader → Reader
 go_right by r = at_place (moved by (pos 0) r.now) r
 
-abbrev go_down : ℤ → Reader → Reader
+abbrev pub go_down : ℤ → Reader → Reader
 go_down by r = at_place (moved (pos 0) by r.now) r
 
-abbrev with_item : Placed → Reader → Reader
+abbrev pub with_item : Placed → Reader → Reader
 with_item item r = reader r.now r.stack r.font r.counts (r.items ++ item ∷ []) r.pages
 
-abbrev set_char : (ℕ → ℕ → ℤ) → ℕ → Reader → Reader
+abbrev pub set_char : (ℕ → ℕ → ℤ) → ℕ → Reader → Reader
 set_char widths byte r = go_right (widths r.font byte) (with_item (Glyph r.now.h r.now.v r.font byte) r)
 
-abbrev put_rule : ℤ → ℤ → Reader → Reader
+abbrev pub put_rule : ℤ → ℤ → Reader → Reader
 put_rule height width r = with_item (Bar r.now.h r.now.v height width) r
 
-abbrev push : Reader → Reader
+abbrev pub push : Reader → Reader
 push r = reader r.now (r.now ∷ r.stack) r.font r.counts r.items r.pages
 
-abbrev pop_to : List Kept → Reader → Option Reader
+abbrev pub pop_to : List Kept → Reader → Option Reader
 pop_to [] r = None
 pop_to (now ∷ stack) r = Some (reader now stack r.font r.counts r.items r.pages)
 
-abbrev begin_page : List ℤ → Reader → Reader
+abbrev pub begin_page : List ℤ → Reader → Reader
 begin_page counts r =
     reader (kept (pos 0) (pos 0) (pos 0) (pos 0) (pos 0) (pos 0)) [] 0 counts [] r.pages
 
-abbrev end_page : Reader → Reader
+abbrev pub end_page : Reader → Reader
 end_page r = reader r.now r.stack r.font [] [] (r.pages ++ record { counts = r.counts; items = r.items } ∷ [])
 
-abbrev choose : ℕ → Reader → Reader
+abbrev pub choose : ℕ → Reader → Reader
 choose font r = reader r.now r.stack font r.counts r.items r.pages
 
-abbrev keep_w : ℤ → Reader → Reader
+abbrev pub keep_w : ℤ → Reader → Reader
 keep_w by r = go_right by (at_place (kept r.now.h r.now.v by r.now.x r.now.y r.now.z) r)
 
-abbrev keep_x : ℤ → Reader → Reader
+abbrev pub keep_x : ℤ → Reader → Reader
 keep_x by r = go_right by (at_place (kept r.now.h r.now.v r.now.w by r.now.y r.now.z) r)
 
-abbrev keep_y : ℤ → Reader → Reader
+abbrev pub keep_y : ℤ → Reader → Reader
 keep_y by r = go_down by (at_place (kept r.now.h r.now.v r.now.w r.now.x by r.now.z) r)
 
-abbrev keep_z : ℤ → Reader → Reader
+abbrev pub keep_z : ℤ → Reader → Reader
 keep_z by r = go_down by (at_place (kept r.now.h r.now.v r.now.w r.now.x r.now.y by) r)
 
 -- ---- bytes
 
 -- the number in the first n bytes, with a sign
-abbrev signed : ℕ → List ℕ → ℤ
+abbrev pub signed : ℕ → List ℕ → ℤ
 signed n bytes = twos_complement n (big_number n bytes)
 
 -- ten counts of four bytes each
-abbrev counts_in : ℕ → List ℕ → List ℤ
+abbrev pub counts_in : ℕ → List ℕ → List ℤ
 counts_in zero bytes = []
 counts_in (suc n) bytes = signed 4 bytes ∷ counts_in n (drop 4 bytes)
 
 -- a command that takes n bytes: what it does, and the bytes behind it
-abbrev taking : ℕ → Option Reader → List ℕ → Option (Reader × List ℕ)
+abbrev pub taking : ℕ → Option Reader → List ℕ → Option (Reader × List ℕ)
 taking n None bytes = None
 taking n (Some r) bytes = if nat_le n (length bytes) then Some (r, drop n bytes) else None
 
-abbrev is_from : ℕ → ℕ → ℕ → Bool
+abbrev pub is_from : ℕ → ℕ → ℕ → Bool
 is_from low high op = nat_le low op && nat_le op high
 
 -- the commands that set something
-abbrev setting : (ℕ → ℕ → ℤ) → Reader → ℕ → List ℕ → Option (Reader × List ℕ)
+abbrev pub setting : (ℕ → ℕ → ℤ) → Reader → ℕ → List ℕ → Option (Reader × List ℕ)
 setting widths r op bytes =
     if nat_lt op 128 then taking 0 (Some (set_char widths op r)) bytes
     else (if op == 128 then taking 1 (Some (set_char widths (big_number 1 bytes) r)) bytes
@@ -122,7 +122,7 @@ setting widths r op bytes =
     else None)))))
 
 -- the commands that move
-abbrev moving : Reader → ℕ → List ℕ → Option (Reader × List ℕ)
+abbrev pub moving : Reader → ℕ → List ℕ → Option (Reader × List ℕ)
 moving r op bytes =
     if op == 141 then taking 0 (Some (push r)) bytes
     else (if op == 142 then taking 0 (pop_to r.stack r) bytes
@@ -139,7 +139,7 @@ moving r op bytes =
     else None)))))))))))
 
 -- pages, fonts, and what stands around the pages; numbers of fonts are read and not looked up
-abbrev framing : Reader → ℕ → List ℕ → Option (Reader × List ℕ)
+abbrev pub framing : Reader → ℕ → List ℕ → Option (Reader × List ℕ)
 framing r op bytes =
     if op == 139 then taking 44 (Some (begin_page (counts_in 10 bytes) r)) bytes
     else (if op == 140 then taking 0 (Some (end_page r)) bytes
@@ -151,11 +151,11 @@ framing r op bytes =
     else (if op == 249 then taking (length bytes) (Some r) bytes
     else None)))))))
 
-abbrev or_else : {A : Type 0} → Option A → Option A → Option A
+abbrev pub or_else : {A : Type 0} → Option A → Option A → Option A
 or_else None other = other
 or_else (Some value) other = Some value
 
-abbrev command : (ℕ → ℕ → ℤ) → Reader → ℕ → List ℕ → Option (Reader × List ℕ)
+abbrev pub command : (ℕ → ℕ → ℤ) → Reader → ℕ → List ℕ → Option (Reader × List ℕ)
 command widths r op bytes = or_else (setting widths r op bytes) (or_else (moving r op bytes) (framing r op bytes))
 
 -- so many commands at most

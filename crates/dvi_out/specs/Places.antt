@@ -213,10 +213,10 @@ part_of_glue glue set =
     if is_positive set.sign && same_order glue.stretch_order set.order then glue.stretch
     else (if is_negative set.sign && same_order glue.shrink_order set.order then glue.shrink else pos 0)
 
-abbrev no_part : GlueSet → ℤ
+abbrev pub no_part : GlueSet → ℤ
 no_part set = pos 0
 
-abbrev holds_nothing : Around → ℤ → ℤ → List Placed
+abbrev pub holds_nothing : Around → ℤ → ℤ → List Placed
 holds_nothing around begins ends = []
 
 abbrev pub laid : ℤ → ℤ → (GlueSet → ℤ) → (Around → ℤ → ℤ → List Placed) → Filler → Laid
@@ -224,20 +224,20 @@ laid across down part holds filler =
     record { across = across; down = down; part = part; holds = holds; filler = filler }
 
 -- a node that is nowhere
-abbrev nothing_laid : Laid
+abbrev pub nothing_laid : Laid
 nothing_laid = laid (pos 0) (pos 0) no_part holds_nothing Nothing
 
-abbrev box_laid : BoxNode (List Laid) → Around → ℤ → ℤ → List Placed
+abbrev pub box_laid : BoxNode (List Laid) → Around → ℤ → ℤ → List Placed
 box_laid b around begins ends =
     if around.vertical
     then box_placed b (around.h +ℤ b.shift) (around.v +ℤ begins +ℤ b.height)
     else box_placed b (around.h +ℤ begins) (around.v +ℤ b.shift)
 
-abbrev hung : BoxNode (List Laid) → Hung
+abbrev pub hung : BoxNode (List Laid) → Hung
 hung b =
     record { width = b.width; height = b.height; depth = b.depth; shift = b.shift; standing = box_placed b }
 
-abbrev whatsit_laid : Whatsit → Laid
+abbrev pub whatsit_laid : Whatsit → Laid
 whatsit_laid (whatsit.Open stream name) = nothing_laid
 whatsit_laid (whatsit.Write stream text) = nothing_laid
 whatsit_laid (whatsit.Close stream) = nothing_laid

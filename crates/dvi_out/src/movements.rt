@@ -1,8 +1,9 @@
 //! Which movements of a family, horizontal or vertical, are kept by the reader of a page and repeated (`tex.web`,
 //! sections 604 to 615).
-ghost use Rattle.std.specs.Prelude.{◌≡◌, ◌<◌, ◌++◌, ◌∷◌, [], OnOk, IfSome, length, slice_set};
+ghost use Rattle.std.specs.Prelude.{◌≡◌, ◌<◌, ◌++◌, ◌∷◌, [], None, OnOk, IfSome, length, slice_set};
 ghost use Rattle.std.specs.List.{fold};
-ghost use Rattle.dvi_out.specs.SpellingMovements.{passed_at, word_here, mark_here, mark_between, of_the_width, of_another_width, look_at, search, movement_at, open_at, open_movements, with_mark, with_found, opened, closed, moved, no_movements};
+ghost use Rattle.dvi_out.specs.SpellingMovements.{passed_at, word_here, mark_here, mark_between, of_the_width, of_another_width, look_at, search, movement_at, open_at, open_movements, with_mark, with_found, opened, closed, moved, no_movements, carried, repeated};
+ghost use Rattle.dvi_out.specs.Buffer.{index_of};
 ghost use Rattle.dvi_out.specs.FamilyOf.{family_of};
 
 use std::alloc::{AllocError, Global};
@@ -75,7 +76,7 @@ impl Mark {
     }
 
     /// The mark of a movement whose width is kept as the word.
-    fn here(word: Word) -> Mark
+    pub(crate) fn here(word: Word) -> Mark
         ensures { result ≡ mark_here word }
     {
         match word {
@@ -173,16 +174,25 @@ impl Movements {
         self.open_places.truncate(began);
     }
 
-    /// A movement comes, whose width is not 0.
-    pub(crate) fn add(&mut self, width: i32) -> Result<(), AllocError>
+    /// A movement comes, whose width is not 0, where the one was found whose width it repeats.
+    pub(crate) fn add(&mut self, width: i32, found: Option<(usize, Word)>) -> Result<(), AllocError>
+        requires found { found ≡ search width (open_movements (family_of self.old)) None }
+        requires place { IfSome found (λ f. f.0 < length self.old.open_places.items) }
         ensures { OnOk result (family_of self.new ≡ moved width (family_of self.old)) }
     {
         let place = self.moves.len();
-        let found = self.search(width);
         let movement = self.share(width, found);
         self.moves.push(movement)?;
         self.open_places.push(place)?;
         Ok(())
+    }
+
+    /// Which movement is open behind so many later ones.
+    pub(crate) fn index_of(&self, passed: usize) -> usize
+        requires { passed < length self.now.open_places.items }
+        ensures { result ≡ index_of (family_of self.now) passed }
+    {
+        self.open_places[self.open_places.len() - 1 - passed]
     }
 
     /// The open movement that stands behind so many later ones.
@@ -197,7 +207,7 @@ impl Movements {
     }
 
     /// Looks for an open movement that a new one of the width can repeat: how many later ones are passed, and the word.
-    fn search(&self, width: i32) -> Option<(usize, Word)>
+    pub(crate) fn search(&self, width: i32) -> Option<(usize, Word)>
         ensures found { result ≡ search width (open_movements (family_of self.now)) None }
         ensures places { IfSome result (λ found. found.0 < length self.now.open_places.items) }
     {
@@ -220,21 +230,35 @@ impl Movements {
         ensures began { self.new.began.items ≡ self.old.began.items }
     {
         let Some((passed, word)) = found else {
-            return Movement {
-                width,
-                mark: Mark::Free,
-                repeats: None,
-            };
+            return carried(width);
         };
         let latest = self.open_places.len() - passed;
         let place = self.open_places[latest - 1];
         set_mark(&mut self.moves, place, Mark::here(word));
         pass_over(&mut self.moves, &self.open_places[latest..], word);
-        Movement {
-            width,
-            mark: Mark::here(word),
-            repeats: Some(word),
-        }
+        repeated(width, word)
+    }
+}
+
+/// A movement that carries its width.
+pub(crate) fn carried(width: i32) -> Movement
+    ensures { result ≡ carried width }
+{
+    Movement {
+        width,
+        mark: Mark::Free,
+        repeats: None,
+    }
+}
+
+/// A movement that repeats a word.
+pub(crate) fn repeated(width: i32, word: Word) -> Movement
+    ensures { result ≡ repeated width word }
+{
+    Movement {
+        width,
+        mark: Mark::here(word),
+        repeats: Some(word),
     }
 }
 
@@ -263,10 +287,6 @@ pub(crate) fn movement_at(moves: &[Movement], place: usize) -> Movement
 {
     match moves.get(place) {
         Some(movement) => *movement,
-        None => Movement {
-            width: 0,
-            mark: Mark::Free,
-            repeats: None,
-        },
+        None => carried(0),
     }
 }

@@ -1,26 +1,23 @@
 //! A file with its pages (`tex.web`, sections 583 to 595, 617 and 638 to 642).
 ghost use Rattle.std.specs.Prelude.{◌≡◌, ℤ, ◌+◌, ◌<◌, ◌++◌, List, [], OnOk, OnErr, IfOk, IfErr, Ok};
-ghost use Rattle.std.specs.List.{flat_map, fold};
+ghost use Rattle.std.specs.List.{flat_map};
 ghost use Rattle.std.specs.Option.{option_copied};
 ghost use Rattle.tokens.specs.Ends.{Ends};
 ghost use Rattle.dvi_out.specs.declared.font.FontDef.{FontDef};
-ghost use Rattle.dvi_out.specs.SpellingMovements.{no_movements};
-ghost use Rattle.dvi_out.specs.SpellingPage.{signed_four, spell_all, across, down};
+ghost use Rattle.dvi_out.specs.SpellingPage.{signed_four, spell_all};
 ghost use Rattle.dvi_out.specs.SpellingFile.{no_file, begun, preamble, with_more, taken, page_of, page_walk, at_least_zero, reach_down, reach_right, is_huge, check_answer, page_answer, pointer, definitions_below, definition_if, filling, post, post_post, finished};
-ghost use Rattle.dvi_out.specs.FamilyOf.{family_of};
 ghost use Rattle.dvi_out.specs.WalkOf.{walk_of};
-ghost use Rattle.dvi_out.specs.SpelledOf.{spelled_of};
 ghost use Rattle.dvi_out.specs.FileOf.{file_in};
 ghost use Rattle.dvi_out.specs.PageMade.{MakesPage, with_made};
 
 use crate::command::Command;
 use crate::font::FontDef;
-use crate::movements::Movements;
 use crate::numbers::{put_four, put_signed_four, put_two};
 use crate::positions::plus;
 use crate::speller::{Sources, Speller, find_font, put_definition};
 use crate::walker::Walker;
 use crate::walking::walk_list;
+use crate::writer::Writer;
 use nodes::BoxNode;
 use std::alloc::{AllocError, Global};
 use std::mem::replace;
@@ -119,62 +116,20 @@ fn walk_page(alloc: Global, shipped: &BoxNode, offset: (i32, i32)) -> Result<Wal
     Ok(walker)
 }
 
-/// The movements of a page, horizontal and vertical.
-fn families(alloc: Global, commands: &[Command]) -> Result<(Movements, Movements), AllocError>
-    ensures rights { IfOk result (λ f. family_of f.0 ≡ fold across no_movements commands.now) }
-    ensures downs { IfOk result (λ f. family_of f.1 ≡ fold down no_movements commands.now) }
-{
-    let mut rights = Movements::new(alloc);
-    let mut downs = Movements::new(alloc);
-    for i in 0..commands.len() {
-        mark(&mut rights, &mut downs, &commands[i])?;
-    }
-    Ok((rights, downs))
-}
-
-/// The movements after a command.
-fn mark(rights: &mut Movements, downs: &mut Movements, command: &Command) -> Result<(), AllocError>
-    ensures rights { OnOk result (family_of rights.new ≡ across (family_of rights.old) command.now) }
-    ensures downs { OnOk result (family_of downs.new ≡ down (family_of downs.old) command.now) }
-{
-    match command {
-        Command::Push => {
-            rights.begin_list()?;
-            downs.begin_list()
-        }
-        Command::Pop => {
-            rights.end_list();
-            downs.end_list();
-            Ok(())
-        }
-        Command::Right(width) => rights.add(*width),
-        Command::Down(height) => downs.add(*height),
-        Command::Character { .. } => Ok(()),
-        Command::SetRule { .. } => Ok(()),
-        Command::PutRule { .. } => Ok(()),
-        Command::Special(_) => Ok(()),
-    }
-}
-
-/// Spells the commands of a page, where these fonts are defined in the file and these may be used.
-fn spell_page(
+/// Writes the commands of a page, where these fonts are defined in the file and these may be used.
+fn write_page(
     alloc: Global,
     commands: &[Command],
     defined: &[FontDef],
     fonts: &[FontDef],
 ) -> Result<Speller, AllocError>
-    ensures { IfOk result (λ speller. spelled_of speller ≡ spell_all commands.now defined.now fonts.now) }
+    ensures bytes { IfOk result (λ speller. speller.bytes.items ≡ (spell_all commands.now defined.now fonts.now).bytes) }
+    ensures fresh { IfOk result (λ speller. speller.fresh.items ≡ (spell_all commands.now defined.now fonts.now).fresh) }
 {
-    let (rights, downs) = families(alloc, commands)?;
-    let sources = Sources {
-        rights: &rights.moves,
-        downs: &downs.moves,
-        defined,
-        fonts,
-    };
-    let mut speller = Speller::new(alloc);
-    speller.spell_all(&sources, commands)?;
-    Ok(speller)
+    let sources = Sources { defined, fonts };
+    let mut writer = Writer::new(alloc);
+    writer.write_all(&sources, commands)?;
+    Ok(writer.speller)
 }
 
 /// Adds the place of a page, or -1.
@@ -262,7 +217,7 @@ impl Pages {
         ensures { IfOk result (λ page. MakesPage (file_in self.now) (page_of shipped.now counts.now offset.0 offset.1 fonts.now) page) }
     {
         let walker = walk_page(self.alloc, shipped, offset)?;
-        let speller = spell_page(self.alloc, &walker.commands, &self.fonts, fonts)?;
+        let speller = write_page(self.alloc, &walker.commands, &self.fonts, fonts)?;
         let mut bytes = Vec::new(self.alloc);
         bytes.push(139)?;
         put_counts(&mut bytes, counts)?;

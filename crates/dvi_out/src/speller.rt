@@ -1,40 +1,14 @@
-//! The bytes of the symbolic commands of a page (`tex.web`, sections 583 to 590, 602, 607 to 610 and 621).
-ghost use Rattle.std.specs.Prelude.{◌≡◌, ◌++◌, ◌∷◌, ◌≤◌, [], OnOk, IfOk};
+//! The bytes of commands that don't move, and of fonts (`tex.web`, sections 583 to 590, 602 and 621).
+ghost use Rattle.std.specs.Prelude.{◌≡◌, ◌++◌, ◌∷◌, [], OnOk, IfOk};
 ghost use Rattle.std.specs.Option.{option_copied};
-ghost use Rattle.std.specs.List.{find, fold};
-ghost use Rattle.dvi_out.specs.SpellingMovements.{movement_at};
-ghost use Rattle.dvi_out.specs.SpellingPage.{opcode_of, repetition_of, movement_bytes, font_head, font_numbers, font_name, definition, is_font, is_defined, choice, character_bytes, special_bytes, with_right, with_down, with_choice, with_font, with_bytes, with_definition, spell, spelled, signed_four};
-ghost use Rattle.dvi_out.specs.SpelledOf.{spelled_of, given_of, codes_of};
+ghost use Rattle.std.specs.List.{find};
+ghost use Rattle.dvi_out.specs.SpellingPage.{font_head, font_numbers, font_name, definition, is_font, is_defined, choice, character_bytes, special_bytes, with_choice, with_font, with_bytes, with_definition, spelled, signed_four};
+ghost use Rattle.dvi_out.specs.SpelledOf.{spelled_of, given_of};
 
-use crate::command::Command;
 use crate::font::FontDef;
-use crate::movements::{Mark, Movement, Word, movement_at};
-use crate::numbers::{bytes_for, put_four, put_lowest, put_signed_four};
+use crate::numbers::{put_four, put_signed_four};
 use sqlite_items::Items;
 use std::alloc::{AllocError, Global};
-
-/// The commands of a family of movements, each the one that takes a width of one byte. In front of those that keep a
-/// word stand those that repeat it.
-#[derive(Clone, Copy)]
-pub(crate) struct Codes {
-    pub(crate) plain: u8,
-    pub(crate) first: u8,
-    pub(crate) second: u8,
-}
-
-/// `right1`, `w1` and `x1`.
-const HORIZONTAL: Codes = Codes {
-    plain: 143,
-    first: 148,
-    second: 153,
-};
-
-/// `down1`, `y1` and `z1`.
-const VERTICAL: Codes = Codes {
-    plain: 157,
-    first: 162,
-    second: 167,
-};
 
 /// A page that is being spelled.
 #[derive(Drop)]
@@ -45,65 +19,15 @@ pub(crate) struct Speller {
     pub(crate) font: Option<u8>,
     /// The fonts that this page defines.
     pub(crate) fresh: Vec<FontDef>,
-    /// How many movements of each family have been spelled.
-    pub(crate) rights: usize,
-    pub(crate) downs: usize,
 }
 
 /// What a page is spelled with.
 #[derive(Clone, Copy)]
 pub(crate) struct Sources<'a> {
-    pub(crate) rights: &'a [Movement],
-    pub(crate) downs: &'a [Movement],
     /// The fonts that the file has defined.
     pub(crate) defined: &'a [FontDef],
     /// All fonts that may be used.
     pub(crate) fonts: &'a [FontDef],
-}
-
-impl Codes {
-    fn of_mark(self, mark: Mark) -> u8
-        ensures { result ≡ opcode_of (codes_of self) mark }
-    {
-        match mark {
-            Mark::Free => self.plain,
-            Mark::FirstOnly => self.plain,
-            Mark::SecondOnly => self.plain,
-            Mark::Fixed => self.plain,
-            Mark::FirstHere => self.first,
-            Mark::SecondHere => self.second,
-        }
-    }
-
-    fn of_repetition(self, word: Word) -> u8
-        ensures { result ≡ repetition_of (codes_of self) word }
-    {
-        match word {
-            Word::First => self.first.saturating_sub(1),
-            Word::Second => self.second.saturating_sub(1),
-        }
-    }
-}
-
-/// Adds the bytes of a movement.
-#[tactic(auto, unfolding(crate::specs::SpellingPage::movement_bytes))]
-fn put_movement(out: &mut Vec<u8>, codes: Codes, movement: Movement) -> Result<(), AllocError>
-    requires first { codes.first ≤ 252 }
-    requires second { codes.second ≤ 252 }
-    requires plain { codes.plain ≤ 252 }
-    ensures { OnOk result (out.new.items ≡ out.old.items ++ movement_bytes (codes_of codes) movement) }
-{
-    match movement.repeats {
-        Some(word) => {
-            out.push(codes.of_repetition(word))?;
-            Ok(())
-        }
-        None => {
-            let count = bytes_for(movement.width);
-            out.push(codes.of_mark(movement.mark) + (count - 1) as u8)?;
-            put_lowest(out, count, movement.width)
-        }
-    }
 }
 
 /// Adds a font's number in the file and its checksum.
@@ -180,31 +104,7 @@ impl Speller {
             bytes: Vec::new(alloc),
             font: None,
             fresh: Vec::new(alloc),
-            rights: 0,
-            downs: 0,
         }
-    }
-
-    /// A horizontal movement, the next of its family.
-    #[tactic(auto, unfolding(crate::specs::SpellingPage::with_right))]
-    fn put_right(&mut self, sources: &Sources) -> Result<(), AllocError>
-        ensures { OnOk result (spelled_of self.new ≡ with_right (given_of sources.now) (spelled_of self.old)) }
-    {
-        let movement = movement_at(sources.rights, self.rights);
-        put_movement(&mut self.bytes, HORIZONTAL, movement)?;
-        self.rights = self.rights.checked_add(1).ok_or(AllocError)?;
-        Ok(())
-    }
-
-    /// A vertical movement, the next of its family.
-    #[tactic(auto, unfolding(crate::specs::SpellingPage::with_down))]
-    fn put_down(&mut self, sources: &Sources) -> Result<(), AllocError>
-        ensures { OnOk result (spelled_of self.new ≡ with_down (given_of sources.now) (spelled_of self.old)) }
-    {
-        let movement = movement_at(sources.downs, self.downs);
-        put_movement(&mut self.bytes, VERTICAL, movement)?;
-        self.downs = self.downs.checked_add(1).ok_or(AllocError)?;
-        Ok(())
     }
 
     /// Defines a font, if it is there.
@@ -255,6 +155,20 @@ impl Speller {
         }
     }
 
+    /// Sets a character in a font.
+    pub(crate) fn set_character(
+        &mut self,
+        sources: &Sources,
+        font: u8,
+        byte: u8,
+    ) -> Result<(), AllocError>
+        ensures { OnOk result
+            (spelled_of self.new ≡ with_bytes (character_bytes byte) (with_font (given_of sources.now) font (spelled_of self.old))) }
+    {
+        self.use_font(sources, font)?;
+        self.put_character(byte)
+    }
+
     fn put_character(&mut self, byte: u8) -> Result<(), AllocError>
         ensures { OnOk result (spelled_of self.new ≡ with_bytes (character_bytes byte) (spelled_of self.old)) }
     {
@@ -265,7 +179,7 @@ impl Speller {
         Ok(())
     }
 
-    fn put_rule(&mut self, code: u8, height: i32, width: i32) -> Result<(), AllocError>
+    pub(crate) fn put_rule(&mut self, code: u8, height: i32, width: i32) -> Result<(), AllocError>
         ensures { OnOk result (spelled_of self.new ≡ with_bytes (code ∷ signed_four height ++ signed_four width) (spelled_of self.old)) }
     {
         self.bytes.push(code)?;
@@ -273,7 +187,7 @@ impl Speller {
         put_signed_four(&mut self.bytes, width)
     }
 
-    fn put_special(&mut self, bytes: &[u8]) -> Result<(), AllocError>
+    pub(crate) fn put_special(&mut self, bytes: &[u8]) -> Result<(), AllocError>
         ensures { OnOk result (spelled_of self.new ≡ with_bytes (special_bytes bytes.now) (spelled_of self.old)) }
     {
         let length = bytes.len();
@@ -287,43 +201,10 @@ impl Speller {
         self.bytes.extend_from_slice(bytes)
     }
 
-    fn put_byte(&mut self, byte: u8) -> Result<(), AllocError>
+    pub(crate) fn put_byte(&mut self, byte: u8) -> Result<(), AllocError>
         ensures { OnOk result (spelled_of self.new ≡ with_bytes (byte ∷ []) (spelled_of self.old)) }
     {
         self.bytes.push(byte)?;
-        Ok(())
-    }
-
-    /// Spells a command.
-    fn spell(&mut self, sources: &Sources, command: &Command) -> Result<(), AllocError>
-        ensures { OnOk result (spelled_of self.new ≡ spell (given_of sources.now) (spelled_of self.old) command.now) }
-    {
-        match command {
-            Command::Push => self.put_byte(141),
-            Command::Pop => self.put_byte(142),
-            Command::Right(_) => self.put_right(sources),
-            Command::Down(_) => self.put_down(sources),
-            Command::Character { font, byte } => {
-                self.use_font(sources, *font)?;
-                self.put_character(*byte)
-            }
-            Command::SetRule { height, width } => self.put_rule(132, *height, *width),
-            Command::PutRule { height, width } => self.put_rule(137, *height, *width),
-            Command::Special(bytes) => self.put_special(bytes.as_slice()),
-        }
-    }
-
-    /// Spells commands, one after the other.
-    pub(crate) fn spell_all(
-        &mut self,
-        sources: &Sources,
-        commands: &[Command],
-    ) -> Result<(), AllocError>
-        ensures { OnOk result (spelled_of self.new ≡ fold (spell (given_of sources.now)) (spelled_of self.old) commands.now) }
-    {
-        for i in 0..commands.len() {
-            self.spell(sources, &commands[i])?;
-        }
         Ok(())
     }
 }

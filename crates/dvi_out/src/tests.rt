@@ -6,4 +6,5 @@ mod leaders;
 mod limits;
 mod material;
 mod movements;
+mod reading;
 mod things;
