@@ -24,7 +24,7 @@ use Rattle.pending.specs.Pending.{Item, Ready, From}
 use Rattle.pending.specs.Take.{Looking, looking, with_eye, as_token, paid_to, taken, used_up, with_next, at_line_end, by_seen, sight_over, next_sight, Reading, reading, by_paid, by_sight, event_of, next_event}
 use Rattle.gullet.specs.State.{State}
 use Rattle.gullet.specs.Events.{reading_of, with_reading, in_state, with_end_shown, next_event_of, take_event}
-use Rattle.gullet.specs.Next.{is_end, ends_of, ends_left}
+use Rattle.gullet.specs.RawToken.{is_end, ends_of, ends_left}
 use Rattle.gullet.specs.Parameters.{categories, end_line}
 
 -- the end of the last line is told where it wasn't told before

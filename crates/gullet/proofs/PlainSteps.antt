@@ -1,6 +1,9 @@
 -- A plain step takes something up.
-use Rattle.std.proofs.Common.{◌≡◌, true, List, [], ◌∷◌, ◌++◌, Option, Result, Ok, Err, IfOk, refl, sym, ◌∙◌, ap, append_assoc}
+use Rattle.std.proofs.Common.{ℕ, ◌≡◌, true, List, [], ◌∷◌, ◌++◌, Option, Result, Ok, Err, IfOk, refl, sym, ◌∙◌, ap, append_assoc}
 use Rattle.tokens.specs.declared.token.Token.{Token}
+use Rattle.tokens.specs.declared.meaning.Macro.{Macro}
+use Rattle.conditionals.specs.Skipping.{Skipping}
+use Rattle.macro_args.specs.Scanning.{Scanning}
 use Rattle.scan_nums.specs.declared.int_scan.IntScan.{IntScan}
 use Rattle.gullet.specs.declared.context.Context.{Context}
 use Rattle.gullet.specs.declared.progress.Progress.{Progress}
@@ -14,7 +17,7 @@ use Rattle.gullet.specs.Wants.{Taken, wants, token_of, meaning_of, told_of}
 -- a plain step takes what comes
 fits : (p : Progress) → is_plain p ≡ true → FitsToken p × FitsGot p × FitsWas p
 fits (progress.Number scan last) h = cc
-fits (progress.Passing scan count) h = cc
+fits (progress.Passing sought scan count) h = cc
 fits (progress.Call name called scan) h = cc
 fits _ h = (tt, tt, tt)
 
@@ -33,15 +36,23 @@ IsNoNumber p = (scan : IntScan) (last : Option Token) → p ≡ progress.Number 
 
 pub got_is_plain : (p : Progress) → FitsGot p → IsNoNumber p → is_plain p ≡ true
 got_is_plain (progress.Number scan last) takes other = absurd (other scan last refl)
-got_is_plain (progress.Passing scan count) takes other = absurd takes
+got_is_plain (progress.Passing sought scan count) takes other = absurd takes
 got_is_plain (progress.Call name called scan) takes other = absurd takes
 got_is_plain _ takes other = refl
 
 pub was_is_plain : (p : Progress) → FitsWas p → IsNoNumber p → is_plain p ≡ true
 was_is_plain (progress.Number scan last) takes other = absurd (other scan last refl)
-was_is_plain (progress.Passing scan count) takes other = absurd takes
+was_is_plain (progress.Passing sought scan count) takes other = absurd takes
 was_is_plain (progress.Call name called scan) takes other = absurd takes
 was_is_plain _ takes other = refl
+
+-- a step that takes a token, and is of no number, no text that is passed over and no macro's call, is plain
+pub token_is_plain : (p : Progress) → IsNoNumber p → ((sought : ℕ) (scan : Skipping) (count : ℕ) → p ≡ progress.Passing sought scan count → ⊥)
+    → ((name : Token) (called : Macro) (scan : Scanning) → p ≡ progress.Call name called scan → ⊥) → is_plain p ≡ true
+token_is_plain (progress.Number scan last) number passing call = absurd (number scan last refl)
+token_is_plain (progress.Passing sought scan count) number passing call = absurd (passing sought scan count refl)
+token_is_plain (progress.Call name called scan) number passing call = absurd (call name called scan refl)
+token_is_plain _ number passing call = refl
 
 while_open_along : (want : Want) (P Q : Type 0) → (P → Q) → WhileOpen want P → WhileOpen want Q
 while_open_along Raw P Q f h = f h

@@ -16,7 +16,8 @@ use Rattle.gullet.specs.declared.next.Sought.{Sought}
 use Rattle.gullet.specs.declared.next.Sought.TheVariants as sought
 use Rattle.gullet.specs.Events.{take_event}
 use Rattle.gullet.specs.Expansion.{most_turns}
-use Rattle.gullet.specs.Next.{is_end, raw_of, ends_left, by_raw, raw_past, next_raw, seek_once, behind_look, seek, next_expanded}
+use Rattle.gullet.specs.Next.{seek_once, behind_look, seek, next_expanded}
+use Rattle.gullet.specs.RawToken.{is_end, raw_of, ends_left, by_raw, raw_past, next_raw}
 use Rattle.gullet.specs.State.{State}
 use Rattle.gullet.proofs.Ends.{end-falls}
 

@@ -1,7 +1,7 @@
 -- Worked expansions, computed by the definitions alone, in the environments of the start.
 use Rattle.std.specs.Prelude.{◌≡◌, ℕ, true, false, List, [], ◌∷◌, Option, Some, None, Ok, Err}
 use Rattle.tokens.specs.Budget.{unused}
-use Rattle.tokens.specs.Codes.{count_code, number_code, else_code, fi_code, endcsname_code, relax_code}
+use Rattle.tokens.specs.Codes.{count_code, catcode_code, number_code, else_code, or_code, fi_code, endcsname_code, relax_code}
 use Rattle.tokens.specs.Primitives.{primitive_names}
 use Rattle.tokens.specs.declared.token.Token.{Token}
 use Rattle.tokens.specs.declared.token.Token.TheVariants.{Char, Name, Arg}
@@ -15,6 +15,10 @@ use Rattle.save_groups.specs.Environments.{beginning}
 use Rattle.gullet.specs.declared.facts.Facts.{Facts}
 use Rattle.gullet.specs.declared.task.Task.{Task}
 use Rattle.gullet.specs.declared.task.Task.TheVariants as task
+use Rattle.gullet.specs.declared.task.Test.TheVariants as test
+use Rattle.gullet.specs.declared.task.Numerals.TheVariants.{Decimal, Roman}
+use Rattle.gullet.specs.declared.task.Part.TheVariants.{Code, Category}
+use Rattle.gullet.specs.declared.task.Simple.TheVariants as simple
 use Rattle.gullet.specs.Expansion.{outcome, outermost}
 use Rattle.gullet.specs.State.{State}
 
@@ -89,12 +93,12 @@ bracketed = record {
 
 pub record WorkedExpansions : Type 0 where
   -- \number\count7 x
-  pub number : Leaves task.NumberText (named count_code ∷ other 55 ∷ space ∷ letter 120 ∷ []) (other 48 ∷ letter 120 ∷ []) 3
+  pub number : Leaves (task.NumberText Decimal) (named count_code ∷ other 55 ∷ space ∷ letter 120 ∷ []) (other 48 ∷ letter 120 ∷ []) 3
   -- \ifnum1<2a\else b\fi: the branch is read
-  pub yes : Leaves task.IfNumber (other 49 ∷ other 60 ∷ other 50 ∷ letter 97 ∷ named else_code ∷ letter 98 ∷ named fi_code ∷ [])
+  pub yes : Leaves (task.If test.Number) (other 49 ∷ other 60 ∷ other 50 ∷ letter 97 ∷ named else_code ∷ letter 98 ∷ named fi_code ∷ [])
       (letter 97 ∷ named else_code ∷ letter 98 ∷ named fi_code ∷ []) 4
   -- \ifnum2<1a\else b\fi: the branch is passed over
-  pub no : Leaves task.IfNumber (other 50 ∷ other 60 ∷ other 49 ∷ letter 97 ∷ named else_code ∷ letter 98 ∷ named fi_code ∷ [])
+  pub no : Leaves (task.If test.Number) (other 50 ∷ other 60 ∷ other 49 ∷ letter 97 ∷ named else_code ∷ letter 98 ∷ named fi_code ∷ [])
       (letter 98 ∷ named fi_code ∷ []) 5
   -- \expandafter a\number1 x
   pub after : Leaves task.ExpandAfter (letter 97 ∷ named number_code ∷ other 49 ∷ space ∷ letter 120 ∷ [])
@@ -102,6 +106,28 @@ pub record WorkedExpansions : Type 0 where
   -- \csname relax\endcsname
   pub name : Leaves task.NameText (letter 114 ∷ letter 101 ∷ letter 108 ∷ letter 97 ∷ letter 120 ∷ named endcsname_code ∷ letter 98 ∷ [])
       (named relax_code ∷ letter 98 ∷ []) 6
+  -- \romannumeral14 x
+  pub roman : Leaves (task.NumberText Roman) (other 49 ∷ other 52 ∷ space ∷ letter 120 ∷ []) (other 120 ∷ other 105 ∷ other 118 ∷ letter 120 ∷ []) 3
+  -- \ifodd-3 a\else b\fi, and \iffalse a\else b\fi
+  pub odd : Leaves (task.If test.Odd) (other 45 ∷ other 51 ∷ space ∷ letter 97 ∷ named else_code ∷ letter 98 ∷ named fi_code ∷ [])
+      (letter 97 ∷ named else_code ∷ letter 98 ∷ named fi_code ∷ []) 3
+  pub never : Leaves (task.If (test.Always false)) (letter 97 ∷ named else_code ∷ letter 98 ∷ named fi_code ∷ []) (letter 98 ∷ named fi_code ∷ []) 2
+  -- \ifcase1 a\or b\else c\fi
+  pub cases : Leaves (task.If test.Case)
+      (other 49 ∷ space ∷ letter 97 ∷ named or_code ∷ letter 98 ∷ named else_code ∷ letter 99 ∷ named fi_code ∷ [])
+      (letter 98 ∷ named else_code ∷ letter 99 ∷ named fi_code ∷ []) 4
+  -- \ifx\relax\fi a\else b\fi: names that mean different things
+  pub same : Leaves (task.If test.SameMeaning)
+      (named relax_code ∷ named fi_code ∷ letter 97 ∷ named else_code ∷ letter 98 ∷ named fi_code ∷ []) (letter 98 ∷ named fi_code ∷ []) 4
+  -- \if ab and \ifcat ab
+  pub alike : Leaves (task.If (test.Alike Code)) (letter 97 ∷ letter 98 ∷ letter 99 ∷ named fi_code ∷ []) [] 4
+  pub of_a_kind : Leaves (task.If (test.Alike Category)) (letter 97 ∷ letter 98 ∷ letter 99 ∷ named fi_code ∷ []) (letter 99 ∷ named fi_code ∷ []) 2
+  -- \string\fi and \meaning a
+  pub string : Leaves (task.Simple simple.TokenText) (named fi_code ∷ letter 120 ∷ []) (other 92 ∷ other 102 ∷ other 105 ∷ letter 120 ∷ []) 1
+  pub meaning : Leaves (task.Simple simple.MeaningText) (other 43 ∷ [])
+      (other 116 ∷ other 104 ∷ other 101 ∷ space ∷ other 99 ∷ other 104 ∷ other 97 ∷ other 114 ∷ other 97 ∷ other 99 ∷ other 116 ∷ other 101 ∷ other 114 ∷ space ∷ other 43 ∷ []) 1
+  -- \the\catcode65 x
+  pub code : Leaves task.The (named catcode_code ∷ other 54 ∷ other 53 ∷ space ∷ letter 120 ∷ []) (other 49 ∷ other 49 ∷ letter 120 ∷ []) 4
   -- the macro on `xy.z`
   pub call : Leaves (task.Call (named relax_code) bracketed) (letter 120 ∷ letter 121 ∷ other 46 ∷ letter 122 ∷ [])
       (other 91 ∷ letter 120 ∷ letter 121 ∷ other 93 ∷ letter 122 ∷ []) 3

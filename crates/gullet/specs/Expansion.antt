@@ -40,13 +40,15 @@ is_counted (task.QuantityValue q) = false
 is_counted (task.Undefined t) = false
 is_counted (task.Call name called) = false
 is_counted task.ExpandAfter = false
-is_counted task.NumberText = false
-is_counted task.IfNumber = true
-is_counted task.PassOver = false
+is_counted task.The = false
+is_counted (task.NumberText numerals) = false
+is_counted (task.If asks) = true
+is_counted (task.PassOver sought) = false
 is_counted (task.BranchEnd t word) = false
 is_counted task.NameText = true
 is_counted (task.Input t) = false
 is_counted task.FileName = false
+is_counted (task.Simple thing) = false
 
 abbrev pub is_file_name : Task → Bool
 is_file_name task.WholeNumber = false
@@ -54,13 +56,15 @@ is_file_name (task.QuantityValue q) = false
 is_file_name (task.Undefined t) = false
 is_file_name (task.Call name called) = false
 is_file_name task.ExpandAfter = false
-is_file_name task.NumberText = false
-is_file_name task.IfNumber = false
-is_file_name task.PassOver = false
+is_file_name task.The = false
+is_file_name (task.NumberText numerals) = false
+is_file_name (task.If asks) = false
+is_file_name (task.PassOver sought) = false
 is_file_name (task.BranchEnd t word) = false
 is_file_name task.NameText = false
 is_file_name (task.Input t) = false
 is_file_name task.FileName = true
+is_file_name (task.Simple thing) = false
 
 -- in the arguments of a macro and in a text that is passed over no file may end, and no outer macro may stand (The
 -- TeXbook, page 206; tex.web 336)
@@ -70,13 +74,15 @@ is_closed (task.QuantityValue q) = false
 is_closed (task.Undefined t) = false
 is_closed (task.Call name called) = true
 is_closed task.ExpandAfter = false
-is_closed task.NumberText = false
-is_closed task.IfNumber = false
-is_closed task.PassOver = true
+is_closed task.The = false
+is_closed (task.NumberText numerals) = false
+is_closed (task.If asks) = false
+is_closed (task.PassOver sought) = true
 is_closed (task.BranchEnd t word) = false
 is_closed task.NameText = false
 is_closed (task.Input t) = false
 is_closed task.FileName = false
+is_closed (task.Simple thing) = false
 
 -- nothing stands around
 abbrev pub outermost : Context

@@ -5,6 +5,8 @@ pub mod Meanings
 pub mod Events
 pub mod Troubles
 pub mod FileName
+pub mod FontText
+pub mod RawToken
 pub mod Acts
 pub mod Wants
 pub mod Expansion
@@ -19,6 +21,7 @@ pub mod SoundPhrases
 pub mod SoundKept
 pub mod SoundCopies
 pub mod SoundTaking
+pub mod SoundRaw
 pub mod SoundArguments
 pub mod SoundWants
 pub mod SoundActs

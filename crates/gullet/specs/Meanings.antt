@@ -1,7 +1,7 @@
 -- What a token means now, and what expansion makes of it (The TeXbook, chapter 20; tex.web, parts 25 and 26). A name of
 -- the tables that expansion knows and doesn't carry out yet is undefined.
-use Rattle.std.specs.Prelude.{◌≡◌, ℕ, Bool, true, false, ◌==◌, ◌&&◌, ◌||◌, not, Option, Some, None, if◌then◌else◌}
-use Rattle.tokens.specs.Codes.{input_code, expandafter_code, csname_code, number_code, ifnum_code, else_code, or_code, fi_code, pretolerance_code, errorcontextlines_code, count_code, muskip_code, relax_code, unexpanded_code, etex_revision_code}
+use Rattle.std.specs.Prelude.{◌≡◌, ℕ, Bool, true, false, ◌==◌, ◌&&◌, ◌||◌, not, is_some, Option, Some, None, if◌then◌else◌}
+use Rattle.tokens.specs.Codes.{noexpand_code, string_code, meaning_code, if_code, ifcat_code, ifx_code, ifcase_code, input_code, endinput_code, expandafter_code, csname_code, number_code, romannumeral_code, jobname_code, ifnum_code, ifodd_code, ifvmode_code, ifhmode_code, ifmmode_code, ifinner_code, iftrue_code, iffalse_code, else_code, or_code, fi_code, pretolerance_code, errorcontextlines_code, count_code, muskip_code, catcode_code, delcode_code, inputlineno_code, the_code, relax_code, unexpanded_code, etex_revision_code}
 use Rattle.tokens.specs.declared.token.Token.{Token}
 use Rattle.tokens.specs.declared.token.Token.TheVariants as token
 use Rattle.tokens.specs.declared.meaning.Meaning.{Meaning}
@@ -14,21 +14,58 @@ use Rattle.save_groups.specs.Environments.{Copies}
 use Rattle.scan_nums.specs.Starts.{is_from_to, is_asked, is_expression}
 use Rattle.gullet.specs.declared.task.Task.{Task}
 use Rattle.gullet.specs.declared.task.Task.TheVariants as task
+use Rattle.gullet.specs.declared.task.Test.{Test}
+use Rattle.gullet.specs.declared.task.Test.TheVariants as test
+use Rattle.gullet.specs.declared.task.ModeTest.TheVariants as mode
+use Rattle.gullet.specs.declared.task.Numerals.TheVariants as numerals
+use Rattle.gullet.specs.declared.task.Part.TheVariants as part
+use Rattle.gullet.specs.declared.task.Simple.{Simple}
+use Rattle.gullet.specs.declared.task.Simple.TheVariants as simple
 use Rattle.gullet.specs.declared.task.BranchWord.TheVariants.{Fi, Else, Or}
+
+-- the conditions that are decided, by the codes of their names
+abbrev pub test_of : ℕ → Option Test
+test_of code =
+    if code == if_code then Some (test.Alike part.Code)
+    else if code == ifcat_code then Some (test.Alike part.Category)
+    else if code == ifnum_code then Some test.Number
+    else if code == ifodd_code then Some test.Odd
+    else if code == ifvmode_code then Some (test.Mode mode.Vertical)
+    else if code == ifhmode_code then Some (test.Mode mode.Horizontal)
+    else if code == ifmmode_code then Some (test.Mode mode.Math)
+    else if code == ifinner_code then Some (test.Mode mode.Inner)
+    else if code == ifx_code then Some test.SameMeaning
+    else if code == iftrue_code then Some (test.Always true)
+    else if code == iffalse_code then Some (test.Always false)
+    else if code == ifcase_code then Some test.Case
+    else None
+
+-- the names of which one thing is done
+abbrev pub simple_of : ℕ → Option Simple
+simple_of code =
+    if code == endinput_code then Some simple.EndInput
+    else if code == noexpand_code then Some simple.NoExpand
+    else if code == string_code then Some simple.TokenText
+    else if code == meaning_code then Some simple.MeaningText
+    else if code == jobname_code then Some simple.JobName
+    else None
 
 -- the names whose expansion is carried out
 abbrev pub is_carried_out : ℕ → Bool
 is_carried_out code =
-    (code == input_code) || ((code == expandafter_code) || ((code == csname_code) || ((code == number_code)
-    || ((code == ifnum_code) || is_from_to else_code fi_code code))))
+    (code == input_code) || ((code == the_code) || ((code == expandafter_code) || ((code == csname_code) || ((code == number_code)
+    || ((code == romannumeral_code) || (is_from_to else_code fi_code code || (is_some (test_of code) || is_some (simple_of code))))))))
 
 -- the names that are expanded: \input to \fi, and \unexpanded to \eTeXrevision
 abbrev pub is_expandable_code : ℕ → Bool
 is_expandable_code code = is_from_to input_code fi_code code || is_from_to unexpanded_code etex_revision_code code
 
--- the quantities that are looked at: the integer parameters, and the registers of numbers and glue
+-- the quantities that are looked at: the integer parameters, the registers of numbers and glue, the codes of characters, and
+-- the number of the line
 abbrev pub is_looked_at : ℕ → Bool
-is_looked_at code = is_from_to pretolerance_code errorcontextlines_code code || is_from_to count_code muskip_code code
+is_looked_at code =
+    is_from_to pretolerance_code errorcontextlines_code code || (is_from_to count_code muskip_code code
+    || (is_from_to catcode_code delcode_code code || (code == inputlineno_code)))
 
 -- the names that are still to come
 abbrev pub is_missing : ℕ → Bool
@@ -66,24 +103,25 @@ meaning_of c (token.Name id) = meaning_at c (key.Name id)
 meaning_of c (token.Arg number) = meaning.Undefined
 meaning_of c (token.Frozen number) = meaning.Primitive relax_code
 
--- a token that isn't to be expanded is \relax to whoever takes it
-unfoldable pub taken_meaning : Copies → Token → Bool → Meaning
-taken_meaning c t true = meaning.Primitive relax_code
-taken_meaning c t false = meaning_of c t
-
 -- ---- what is expanded, and to what phrase it leads
+
+abbrev pub as_task : Option Test → Option Simple → Option Task
+as_task (Some asks) thing = Some (task.If asks)
+as_task None None = None
+as_task None (Some thing) = Some (task.Simple thing)
 
 abbrev pub expansion_of_code : Token → ℕ → Option Task
 expansion_of_code t code =
     if code == input_code then Some (task.Input t)
+    else if code == the_code then Some task.The
     else if code == expandafter_code then Some task.ExpandAfter
     else if code == csname_code then Some task.NameText
-    else if code == number_code then Some task.NumberText
-    else if code == ifnum_code then Some task.IfNumber
+    else if code == number_code then Some (task.NumberText numerals.Decimal)
+    else if code == romannumeral_code then Some (task.NumberText numerals.Roman)
     else if code == else_code then Some (task.BranchEnd t Else)
     else if code == or_code then Some (task.BranchEnd t Or)
     else if code == fi_code then Some (task.BranchEnd t Fi)
-    else None
+    else as_task (test_of code) (simple_of code)
 
 abbrev pub expansion : Token → Meaning → Option Task
 expansion t meaning.Undefined = Some (task.Undefined t)
@@ -94,6 +132,17 @@ expansion t (meaning.CharDef byte) = None
 expansion t (meaning.MathCharDef number) = None
 expansion t (meaning.Register kind number) = None
 expansion t (meaning.Font font) = None
+
+-- a token that isn't to be expanded is \relax to whoever takes it, where it would be expanded (tex.web 358)
+abbrev pub marked : Token → Meaning → Meaning
+marked t m = if is_some (expansion t m) then meaning.Primitive relax_code else m
+
+abbrev pub taken_as : Bool → Token → Meaning → Meaning
+taken_as true t m = marked t m
+taken_as false t m = m
+
+unfoldable pub taken_meaning : Copies → Token → Bool → Meaning
+taken_meaning c t noexpand = taken_as noexpand t (meaning_of c t)
 
 -- a macro that may not stand where no outer one may
 abbrev pub is_outer : Meaning → Bool
@@ -114,10 +163,10 @@ key_of (token.Name id) = Some (key.Name id)
 key_of (token.Arg number) = None
 key_of (token.Frozen number) = None
 
--- a meaning is known as it stands, or as another one
-abbrev pub KnownBy : Meaning → Option Meaning → Type 0
-KnownBy m None = known m ≡ m
-KnownBy m (Some other) = known m ≡ other
+-- the meaning of a token that is taken is the one that an environment holds, or another one
+abbrev pub KnownBy : Bool → Token → Meaning → Option Meaning → Type 0
+KnownBy noexpand t m None = taken_as noexpand t (known m) ≡ m
+KnownBy noexpand t m (Some other) = taken_as noexpand t (known m) ≡ other
 
 -- the meaning is the one that an environment holds for this entry
 abbrev pub HeldBy : Copies → Token → Bool → Option Key → Type 0

@@ -1,12 +1,11 @@
--- What expansion is asked for from outside: the next token as it stands, the next one that isn't expanded, and a number
--- (The TeXbook, chapters 20 and 24; tex.web 341, 380 and 440). Behind the end of a file it goes on, and at the end of all
+-- What expansion is asked for from outside besides the next token as it stands: the next one that isn't expanded, and a
+-- number (The TeXbook, chapters 20 and 24; tex.web 380 and 440). Behind the end of a file it goes on, and at the end of all
 -- that is to be read there is none.
-use Rattle.std.specs.Prelude.{ℕ, ◌+◌, Bool, true, false, if◌then◌else◌, List, [], ◌∷◌, Option, Some, None, Ok, Err}
+use Rattle.std.specs.Prelude.{ℕ, Bool, true, false, is_some, if◌then◌else◌, Option, Some, None, Ok, Err}
 use Rattle.std.proofs.Common.{zero, suc}
 use Rattle.tokens.specs.declared.stop.Stop.TheVariants.{OutOfMemory}
 use Rattle.tokens.specs.declared.token.Token.{Token}
 use Rattle.tokens.specs.declared.token.Token.TheVariants.{Frozen}
-use Rattle.pending.specs.Pending.{Item, Ready, From}
 use Rattle.pending.specs.declared.pending.Event.{Event}
 use Rattle.pending.specs.declared.pending.Event.TheVariants as event
 use Rattle.scan_nums.specs.declared.number.Number.{Number}
@@ -21,54 +20,17 @@ use Rattle.gullet.specs.declared.task.Task.TheVariants as task
 use Rattle.gullet.specs.declared.task.Told.{Told}
 use Rattle.gullet.specs.Events.{take_event}
 use Rattle.gullet.specs.Expansion.{outcome, outermost, most_turns}
-use Rattle.gullet.specs.Meanings.{taken_meaning, expansion}
+use Rattle.gullet.specs.Meanings.{meaning_of, taken_meaning, expansion}
 use Rattle.gullet.specs.State.{State}
+use Rattle.save_groups.specs.Environments.{Copies}
 use Rattle.gullet.specs.Wants.{number_told}
-
--- ---- as it stands
-
--- how many ends are still told: that of a source, and before it that of its last line, unless that was told
-abbrev pub ends_of : Item → ℕ
-ends_of (Ready waiting) = 0
-ends_of (From source) = if source.is_ending then 1 else 2
-
-abbrev pub ends_left : List Item → ℕ
-ends_left [] = 0
-ends_left (item ∷ items) = ends_of item + ends_left items
-
--- whether an event is an end, behind which something may be left
-abbrev pub is_end : Event → Bool
-is_end (event.Token t noexpand) = false
-is_end event.Eof = true
-is_end (event.SourceEnd printed) = true
-is_end event.Empty = false
-
--- the token that came next with its flag, if one did
-abbrev pub raw_of : Event → Option (Token × Bool)
-raw_of (event.Token t noexpand) = Some (t, noexpand)
-raw_of event.Eof = None
-raw_of (event.SourceEnd printed) = None
-raw_of event.Empty = None
-
--- behind an end it goes on
-abbrev pub by_raw : (State → Did State (Option (Token × Bool))) → Event × State → Did State (Option (Token × Bool))
-by_raw further (e, s) = if is_end e then further s else Ok (raw_of e, s)
-
--- the next token with its flag, where fewer ends than this stand in front of it
-unfoldable pub raw_past : ℕ → State → Did State (Option (Token × Bool))
-raw_past zero s = Ok (None, s)
-raw_past (suc ends) s = did.◌>>=◌ (take_event s) (by_raw (raw_past ends))
-
--- the next token; behind each end of a source it goes on
-unfoldable pub next_raw : State → Did State (Option (Token × Bool))
-next_raw s = raw_past (suc (ends_left s.pending)) s
 
 -- ---- with expansion
 
--- a token that isn't to be expanded is \relax to whoever takes it
-abbrev pub as_taken : Token → Bool → Token
-as_taken t true = Frozen 0
-as_taken t false = t
+-- a token that isn't to be expanded is \relax to whoever takes it, where it would be expanded
+abbrev pub as_taken : Copies → Token → Bool → Token
+as_taken c t true = if is_some (expansion t (meaning_of c t)) then Frozen 0 else t
+as_taken c t false = t
 
 -- an expansion is read, and what it puts in front is looked at
 abbrev pub expanded : Outside → Task → State → Meant State Sought
@@ -79,7 +41,7 @@ by_expansion o t None s = still (Ok (sought.Token t, s))
 by_expansion o t (Some inner) s = expanded o inner s
 
 abbrev pub by_sight : Outside → Event × State → Meant State Sought
-by_sight o (event.Token t noexpand, s) = by_expansion o (as_taken t noexpand) (expansion t (taken_meaning s.copies t noexpand)) s
+by_sight o (event.Token t noexpand, s) = by_expansion o (as_taken s.copies t noexpand) (expansion t (taken_meaning s.copies t noexpand)) s
 by_sight o (event.Eof, s) = still (Ok (sought.Again, s))
 by_sight o (event.SourceEnd printed, s) = still (Ok (sought.Again, s))
 by_sight o (event.Empty, s) = still (Ok (sought.Nothing, s))

@@ -19,20 +19,31 @@ use Rattle.gullet.specs.declared.task.Told.TheVariants as told
 use Rattle.gullet.specs.declared.task.Act.TheVariants as act
 use Rattle.gullet.specs.declared.task.Want.{Want}
 use Rattle.gullet.specs.declared.task.Want.TheVariants.{Raw, Expanded, Character, Act, Inner, Gives, Wrong}
-use Rattle.gullet.specs.Wants.{Taken, wants, done, only, told_of, token_of, meaning_of, number_told, level_told, word_told, goes_on, behind_first, behind_second, second_want, digits_want, register_numbered, first_number_want, relation_want, false_want, to_fi_want, name_from, file_want, file_from, named_want, left_want, by_relation, relation_of, decided, holds, name_by, byte_of, file_by, letter_of, scanned, last_token, matching, tokens_in, was_done}
+use Rattle.gullet.specs.Wants.{Taken, wants, done, only, told_of, token_of, meaning_of, number_told, level_told, word_told, goes_on, holds_told, behind_first, behind_second, second_want, the_value, register_list_want, digits_want, register_numbered, test_want, is_odd, first_by, second_by, second_want_of, glyph_if, alike, case_of, cases_before, cases_left_want, cases_by, cases_want, relation_want, false_want, to_fi_want, name_from, file_want, file_from, named_want, left_want, by_relation, relation_of, decided, holds, name_by, byte_of, file_by, letter_of, scanned, last_token, matching, tokens_in, was_done}
 
 -- what the phrase wants where a token with this meaning is taken next, or this is told, and then these are taken
 abbrev pub rest : Progress → Token → Meaning → Told → List Taken → Want
 rest (progress.Number scan last) t m v xs = Raw
-rest (progress.Passing scan count) t m v xs = Raw
+rest (progress.Passing sought scan count) t m v xs = Raw
 rest (progress.Call name called scan) t m v xs = Raw
 rest (progress.Finishing back) t m v xs = Gives told.Done back
 rest progress.Telling t m v xs = Gives v None
 rest progress.ExpandFirst t m v xs = behind_first t xs
 rest (progress.ExpandSecond first) t m v xs = behind_second first (second_want t m) xs
-rest progress.Digits t m v xs = digits_want v xs
+rest progress.Value t m v xs = the_value t m xs
+rest progress.ListNumber t m v xs = register_list_want v xs
+rest (progress.Digits numerals) t m v xs = digits_want numerals v xs
 rest (progress.RegisterNumber code) t m v xs = register_numbered code v xs
-rest progress.Opened t m v xs = first_number_want (level_told v) xs
+rest (progress.Opened asks) t m v xs = test_want asks (level_told v) xs
+rest (progress.OddNumber level) t m v xs = decided (is_odd (first_number (number_told v))) level xs
+rest (progress.Asked level) t m v xs = decided (holds_told v) level xs
+rest (progress.FirstGlyph p level) t m v xs = first_by p level t m xs
+rest (progress.FirstActive p level active) t m v xs = second_want_of p level (glyph_if (holds_told v) active) xs
+rest (progress.SecondGlyph p level first) t m v xs = second_by p level first t m xs
+rest (progress.SecondActive p level first active) t m v xs = decided (alike p first (glyph_if (holds_told v) active)) level xs
+rest (progress.CaseNumber level) t m v xs = case_of level (cases_before (first_number (number_told v))) xs
+rest (progress.Cases level left) t m v xs = cases_left_want v level left xs
+rest (progress.CasesLeft level left) t m v xs = cases_by (λ fewer. cases_want level fewer xs) (cases_want level left xs) level left v xs
 rest (progress.FirstNumber level) t m v xs = relation_want level (number_told v) xs
 rest (progress.Relation level first) t m v xs =
     if is_space m then relation_want level first xs else by_relation level first (relation_of t) xs
@@ -59,17 +70,28 @@ Follows p c kind taken = (x : Taken) (xs : List Taken) → wants c kind (taken +
 abbrev pub Stands : Progress → Context → Task → List Taken → Type 0
 Stands (progress.Number scan last) c kind taken =
     (kind ≡ task.WholeNumber) × NumberStands scan (map scanned taken) × (last ≡ last_token taken)
-Stands (progress.Passing scan count) c kind taken =
-    (kind ≡ task.PassOver) × StandsFor 0 (map meaning_of taken) scan × (count ≡ length taken)
+Stands (progress.Passing sought scan count) c kind taken =
+    (kind ≡ task.PassOver sought) × StandsFor sought (map meaning_of taken) scan × (count ≡ length taken)
 Stands (progress.Call name called scan) c kind taken =
     (kind ≡ task.Call name called) × ArgumentsStand (matching called) called.params (tokens_in taken) scan × (was_done taken ≡ false)
 Stands (progress.Finishing back) c kind taken = Follows (progress.Finishing back) c kind taken
 Stands progress.Telling c kind taken = Follows progress.Telling c kind taken
 Stands progress.ExpandFirst c kind taken = Follows progress.ExpandFirst c kind taken
 Stands (progress.ExpandSecond first) c kind taken = Follows (progress.ExpandSecond first) c kind taken
-Stands progress.Digits c kind taken = Follows progress.Digits c kind taken
+Stands progress.Value c kind taken = Follows progress.Value c kind taken
+Stands progress.ListNumber c kind taken = Follows progress.ListNumber c kind taken
+Stands (progress.Digits numerals) c kind taken = Follows (progress.Digits numerals) c kind taken
 Stands (progress.RegisterNumber code) c kind taken = Follows (progress.RegisterNumber code) c kind taken
-Stands progress.Opened c kind taken = Follows progress.Opened c kind taken
+Stands (progress.Opened asks) c kind taken = Follows (progress.Opened asks) c kind taken
+Stands (progress.OddNumber level) c kind taken = Follows (progress.OddNumber level) c kind taken
+Stands (progress.Asked level) c kind taken = Follows (progress.Asked level) c kind taken
+Stands (progress.FirstGlyph p level) c kind taken = Follows (progress.FirstGlyph p level) c kind taken
+Stands (progress.FirstActive p level active) c kind taken = Follows (progress.FirstActive p level active) c kind taken
+Stands (progress.SecondGlyph p level first) c kind taken = Follows (progress.SecondGlyph p level first) c kind taken
+Stands (progress.SecondActive p level first active) c kind taken = Follows (progress.SecondActive p level first active) c kind taken
+Stands (progress.CaseNumber level) c kind taken = Follows (progress.CaseNumber level) c kind taken
+Stands (progress.Cases level left) c kind taken = Follows (progress.Cases level left) c kind taken
+Stands (progress.CasesLeft level left) c kind taken = Follows (progress.CasesLeft level left) c kind taken
 Stands (progress.FirstNumber level) c kind taken = Follows (progress.FirstNumber level) c kind taken
 Stands (progress.Relation level first) c kind taken = Follows (progress.Relation level first) c kind taken
 Stands (progress.SecondNumber level relation first) c kind taken = Follows (progress.SecondNumber level relation first) c kind taken
@@ -98,15 +120,26 @@ WhileOpen (Wrong kind) P = Unit {0}
 -- step takes what comes
 abbrev pub FitsToken : Progress → Type 0
 FitsToken (progress.Number scan last) = awaits scan ≡ NextToken
-FitsToken (progress.Passing scan count) = Unit {0}
+FitsToken (progress.Passing sought scan count) = Unit {0}
 FitsToken (progress.Call name called scan) = Unit {0}
 FitsToken (progress.Finishing back) = Unit {0}
 FitsToken progress.Telling = Unit {0}
 FitsToken progress.ExpandFirst = Unit {0}
 FitsToken (progress.ExpandSecond first) = Unit {0}
-FitsToken progress.Digits = Unit {0}
+FitsToken progress.Value = Unit {0}
+FitsToken progress.ListNumber = Unit {0}
+FitsToken (progress.Digits numerals) = Unit {0}
 FitsToken (progress.RegisterNumber code) = Unit {0}
-FitsToken progress.Opened = Unit {0}
+FitsToken (progress.Opened asks) = Unit {0}
+FitsToken (progress.OddNumber level) = Unit {0}
+FitsToken (progress.Asked level) = Unit {0}
+FitsToken (progress.FirstGlyph p level) = Unit {0}
+FitsToken (progress.FirstActive p level active) = Unit {0}
+FitsToken (progress.SecondGlyph p level first) = Unit {0}
+FitsToken (progress.SecondActive p level first active) = Unit {0}
+FitsToken (progress.CaseNumber level) = Unit {0}
+FitsToken (progress.Cases level left) = Unit {0}
+FitsToken (progress.CasesLeft level left) = Unit {0}
 FitsToken (progress.FirstNumber level) = Unit {0}
 FitsToken (progress.Relation level first) = Unit {0}
 FitsToken (progress.SecondNumber level relation first) = Unit {0}
@@ -121,15 +154,26 @@ FitsToken progress.Named = Unit {0}
 
 abbrev pub FitsGot : Progress → Type 0
 FitsGot (progress.Number scan last) = awaits scan ≡ Answer
-FitsGot (progress.Passing scan count) = ⊥
+FitsGot (progress.Passing sought scan count) = ⊥
 FitsGot (progress.Call name called scan) = ⊥
 FitsGot (progress.Finishing back) = Unit {0}
 FitsGot progress.Telling = Unit {0}
 FitsGot progress.ExpandFirst = Unit {0}
 FitsGot (progress.ExpandSecond first) = Unit {0}
-FitsGot progress.Digits = Unit {0}
+FitsGot progress.Value = Unit {0}
+FitsGot progress.ListNumber = Unit {0}
+FitsGot (progress.Digits numerals) = Unit {0}
 FitsGot (progress.RegisterNumber code) = Unit {0}
-FitsGot progress.Opened = Unit {0}
+FitsGot (progress.Opened asks) = Unit {0}
+FitsGot (progress.OddNumber level) = Unit {0}
+FitsGot (progress.Asked level) = Unit {0}
+FitsGot (progress.FirstGlyph p level) = Unit {0}
+FitsGot (progress.FirstActive p level active) = Unit {0}
+FitsGot (progress.SecondGlyph p level first) = Unit {0}
+FitsGot (progress.SecondActive p level first active) = Unit {0}
+FitsGot (progress.CaseNumber level) = Unit {0}
+FitsGot (progress.Cases level left) = Unit {0}
+FitsGot (progress.CasesLeft level left) = Unit {0}
 FitsGot (progress.FirstNumber level) = Unit {0}
 FitsGot (progress.Relation level first) = Unit {0}
 FitsGot (progress.SecondNumber level relation first) = Unit {0}
@@ -144,15 +188,26 @@ FitsGot progress.Named = Unit {0}
 
 abbrev pub FitsWas : Progress → Type 0
 FitsWas (progress.Number scan last) = awaits scan ≡ Resumption
-FitsWas (progress.Passing scan count) = ⊥
+FitsWas (progress.Passing sought scan count) = ⊥
 FitsWas (progress.Call name called scan) = ⊥
 FitsWas (progress.Finishing back) = Unit {0}
 FitsWas progress.Telling = Unit {0}
 FitsWas progress.ExpandFirst = Unit {0}
 FitsWas (progress.ExpandSecond first) = Unit {0}
-FitsWas progress.Digits = Unit {0}
+FitsWas progress.Value = Unit {0}
+FitsWas progress.ListNumber = Unit {0}
+FitsWas (progress.Digits numerals) = Unit {0}
 FitsWas (progress.RegisterNumber code) = Unit {0}
-FitsWas progress.Opened = Unit {0}
+FitsWas (progress.Opened asks) = Unit {0}
+FitsWas (progress.OddNumber level) = Unit {0}
+FitsWas (progress.Asked level) = Unit {0}
+FitsWas (progress.FirstGlyph p level) = Unit {0}
+FitsWas (progress.FirstActive p level active) = Unit {0}
+FitsWas (progress.SecondGlyph p level first) = Unit {0}
+FitsWas (progress.SecondActive p level first active) = Unit {0}
+FitsWas (progress.CaseNumber level) = Unit {0}
+FitsWas (progress.Cases level left) = Unit {0}
+FitsWas (progress.CasesLeft level left) = Unit {0}
 FitsWas (progress.FirstNumber level) = Unit {0}
 FitsWas (progress.Relation level first) = Unit {0}
 FitsWas (progress.SecondNumber level relation first) = Unit {0}
@@ -189,15 +244,26 @@ Steps before t m v after = (x : Taken) (xs : List Taken) → rest before t m v (
 -- a step other than of a number, of a text that is passed over and of a macro's call
 abbrev pub is_plain : Progress → Bool
 is_plain (progress.Number scan last) = false
-is_plain (progress.Passing scan count) = false
+is_plain (progress.Passing sought scan count) = false
 is_plain (progress.Call name called scan) = false
 is_plain (progress.Finishing back) = true
 is_plain progress.Telling = true
 is_plain progress.ExpandFirst = true
 is_plain (progress.ExpandSecond first) = true
-is_plain progress.Digits = true
+is_plain progress.Value = true
+is_plain progress.ListNumber = true
+is_plain (progress.Digits numerals) = true
 is_plain (progress.RegisterNumber code) = true
-is_plain progress.Opened = true
+is_plain (progress.Opened asks) = true
+is_plain (progress.OddNumber level) = true
+is_plain (progress.Asked level) = true
+is_plain (progress.FirstGlyph p level) = true
+is_plain (progress.FirstActive p level active) = true
+is_plain (progress.SecondGlyph p level first) = true
+is_plain (progress.SecondActive p level first active) = true
+is_plain (progress.CaseNumber level) = true
+is_plain (progress.Cases level left) = true
+is_plain (progress.CasesLeft level left) = true
 is_plain (progress.FirstNumber level) = true
 is_plain (progress.Relation level first) = true
 is_plain (progress.SecondNumber level relation first) = true
@@ -213,46 +279,12 @@ is_plain progress.Named = true
 -- a plain step that follows stands
 pub stands-plain : (p : Progress) (c : Context) (kind : Task) (taken : List Taken) → is_plain p ≡ true → Follows p c kind taken → Stands p c kind taken
 stands-plain (progress.Number scan last) c kind taken h f = cc
-stands-plain (progress.Passing scan count) c kind taken h f = cc
+stands-plain (progress.Passing sought scan count) c kind taken h f = cc
 stands-plain (progress.Call name called scan) c kind taken h f = cc
-stands-plain (progress.Finishing back) c kind taken h f = f
-stands-plain progress.Telling c kind taken h f = f
-stands-plain progress.ExpandFirst c kind taken h f = f
-stands-plain (progress.ExpandSecond first) c kind taken h f = f
-stands-plain progress.Digits c kind taken h f = f
-stands-plain (progress.RegisterNumber code) c kind taken h f = f
-stands-plain progress.Opened c kind taken h f = f
-stands-plain (progress.FirstNumber level) c kind taken h f = f
-stands-plain (progress.Relation level first) c kind taken h f = f
-stands-plain (progress.SecondNumber level relation first) c kind taken h f = f
-stands-plain (progress.PassedOver level) c kind taken h f = f
-stands-plain (progress.Left level) c kind taken h f = f
-stands-plain progress.Met c kind taken h f = f
-stands-plain progress.ToFi c kind taken h f = f
-stands-plain (progress.Name text) c kind taken h f = f
-stands-plain progress.FileStart c kind taken h f = f
-stands-plain (progress.File text) c kind taken h f = f
-stands-plain progress.Named c kind taken h f = f
+stands-plain _ c kind taken h f = f
 
 pub follows-plain : (p : Progress) (c : Context) (kind : Task) (taken : List Taken) → is_plain p ≡ true → Stands p c kind taken → Follows p c kind taken
 follows-plain (progress.Number scan last) c kind taken h f = cc
-follows-plain (progress.Passing scan count) c kind taken h f = cc
+follows-plain (progress.Passing sought scan count) c kind taken h f = cc
 follows-plain (progress.Call name called scan) c kind taken h f = cc
-follows-plain (progress.Finishing back) c kind taken h f = f
-follows-plain progress.Telling c kind taken h f = f
-follows-plain progress.ExpandFirst c kind taken h f = f
-follows-plain (progress.ExpandSecond first) c kind taken h f = f
-follows-plain progress.Digits c kind taken h f = f
-follows-plain (progress.RegisterNumber code) c kind taken h f = f
-follows-plain progress.Opened c kind taken h f = f
-follows-plain (progress.FirstNumber level) c kind taken h f = f
-follows-plain (progress.Relation level first) c kind taken h f = f
-follows-plain (progress.SecondNumber level relation first) c kind taken h f = f
-follows-plain (progress.PassedOver level) c kind taken h f = f
-follows-plain (progress.Left level) c kind taken h f = f
-follows-plain progress.Met c kind taken h f = f
-follows-plain progress.ToFi c kind taken h f = f
-follows-plain (progress.Name text) c kind taken h f = f
-follows-plain progress.FileStart c kind taken h f = f
-follows-plain (progress.File text) c kind taken h f = f
-follows-plain progress.Named c kind taken h f = f
+follows-plain _ c kind taken h f = f

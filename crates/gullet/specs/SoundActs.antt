@@ -1,11 +1,11 @@
 -- What is done for phrases keeps the condition.
-use Rattle.std.specs.Prelude.{refl, ℕ, ℤ, pos, ◌<◌, ◌-◌, ◌==◌, nat_lt, nat_le, Bool, true, List, [], ◌∷◌, map, length, slice_index_or, Option, Some, None, Result, Ok, Err}
+use Rattle.std.specs.Prelude.{refl, ℕ, ℤ, pos, ◌<◌, ◌-◌, ◌==◌, nat_lt, nat_le, min, Bool, true, List, [], ◌∷◌, map, length, slice_index_or, codes, Option, Some, None, Result, Ok, Err}
 use Rattle.std.specs.List.{AllByRecursion}
 use Rattle.std.proofs.Common.{zero, suc, arith}
 use Rattle.scan_nums.specs.declared.number.Number.{Number}
 use Rattle.scan_nums.specs.Number.{first_number, IsAboveLowest, IsNegatable}
 use Rattle.scan_nums.specs.Starts.{is_from_to}
-use Rattle.tokens.specs.Codes.{pretolerance_code, errorcontextlines_code, relax_code}
+use Rattle.tokens.specs.Codes.{pretolerance_code, errorcontextlines_code, output_code, errhelp_code, inputlineno_code, relax_code}
 use Rattle.tokens.specs.Budget.{is_spent}
 use Rattle.tokens.specs.Names.{Interned, interned, interned-below, interned-grows, interned-kept}
 use Rattle.tokens.specs.declared.kind.Kind.{Kind}
@@ -21,8 +21,10 @@ use Rattle.conditionals.specs.declared.stack.Branch.TheVariants.{Deciding, Befor
 use Rattle.conditionals.specs.declared.stack.Condition.{Condition}
 use Rattle.catcode_eye.specs.Lines.{source_lines}
 use Rattle.catcode_eye.specs.Outlook.{Outlook, before_lines, next_line}
-use Rattle.pending.specs.Pending.{Item, fresh, filled, argument, with_list, open_inputs, Opening, opening, opened_file, with_first_line}
+use Rattle.pending.specs.declared.source.Source.{Source}
+use Rattle.pending.specs.Pending.{Item, Ready, From, replaced, ended_at, innermost, line_number, fresh, filled, argument, with_list, open_inputs, Opening, opening, opened_file, with_first_line}
 use Rattle.world.specs.Output.{Output}
+use Rattle.save_groups.specs.declared.key.Key.{Key}
 use Rattle.save_groups.specs.declared.key.Key.TheVariants as key
 use Rattle.save_groups.specs.declared.key.Scope.TheVariants.{Local}
 use Rattle.save_groups.specs.declared.value.Value.{Value}
@@ -36,14 +38,19 @@ use Rattle.asking.specs.Seen.{Outside}
 use Rattle.gullet.specs.declared.site.Passed.{Passed}
 use Rattle.gullet.specs.declared.task.Act.{Act}
 use Rattle.gullet.specs.declared.task.Act.TheVariants as act
+use Rattle.gullet.specs.declared.task.Simple.{Simple}
+use Rattle.gullet.specs.declared.task.Simple.TheVariants as simple
 use Rattle.gullet.specs.declared.task.BranchWord.{BranchWord}
 use Rattle.gullet.specs.declared.task.Told.{Told}
+use Rattle.gullet.specs.declared.task.Told.TheVariants as told
 use Rattle.gullet.specs.declared.task.BranchWord.TheVariants.{Fi, Else, Or}
 use Rattle.gullet.specs.Acts
-use Rattle.gullet.specs.Acts.{with_token, with_some, behind_relax, other, digits, with_digits, with_text, look_register, pass_register, look_parameter, look_by, open_condition, leave, meet, make_name, with_meaning, with_name, is_undefined, with_job, begun, found, by_found, open_file, read_file, passing, perform}
+use Rattle.gullet.specs.Acts.{with_token, with_some, behind_relax, other, with_bytes, with_any_job, with_job_name, with_input_ended, with_text, look_register, pass_register, look_parameter, look_by, open_condition, leave, meet, make_name, with_meaning, with_name, is_undefined, with_job, begun, found, by_found, open_file, read_file, passing, perform}
 use Rattle.gullet.specs.FileName.{file_of, job_of}
 use Rattle.gullet.specs.Parameters.{number_of, number_at, end_line, new_line}
 use Rattle.gullet.specs.Report.{file_begun}
+use Rattle.gullet.specs.RawToken.{one_token}
+use Rattle.gullet.specs.SoundRaw.{one_token_kept}
 use Rattle.gullet.specs.State.{State}
 use Rattle.gullet.specs.Wants.{number_told}
 use Rattle.gullet.specs.Troubles.{pass, passed_over, pass_undefined}
@@ -106,8 +113,25 @@ module _ (s : State) (h : IsSound s) where
   relax_kept : (t : Token) → IsSoundToken (known_of s) t → IsKept s (behind_relax t s)
   relax_kept t g = pending_kept _ (tt, (g, h.pending))
 
-  digits_kept : (n : Number) → IsKept s (with_digits n s)
-  digits_kept n = front_kept (map other (digits n)) (each_of (IsSoundToken (known_of s)) other (digits n) (λ byte. refl))
+  bytes_kept : (text : List ℕ) → IsKept s (with_bytes text s)
+  bytes_kept text =
+      front_kept (map other text)
+      (each_of (IsSoundToken (known_of s)) other text (λ byte. either (IsSoundToken (known_of s)) (byte == 32) (token.Char 10 32) (token.Char 12 byte) refl refl))
+
+  any_job_kept : IsKept s (with_any_job s)
+  any_job_kept = either (IsKept s) (length s.facts.job == 0) _ _ (job_kept (codes "texput")) (kept_itself s h)
+
+  replaced_sound : (new : Source) (items : List Item) → AllByRecursion (IsSoundItem (known_of s)) items → AllByRecursion (IsSoundItem (known_of s)) (replaced new items)
+  replaced_sound new [] g = tt
+  replaced_sound new (Ready waiting ∷ items) g = (g.0, replaced_sound new items g.1)
+  replaced_sound new (From source ∷ items) g = (tt, g.1)
+
+  ended_sound : (source : Option Source) (items : List Item) → AllByRecursion (IsSoundItem (known_of s)) items → AllByRecursion (IsSoundItem (known_of s)) (ended_at source items)
+  ended_sound None items g = g
+  ended_sound (Some source) items g = replaced_sound (record source { is_ending = true }) items g
+
+  input_ended_kept : IsKept s (with_input_ended s)
+  input_ended_kept = pending_kept _ (ended_sound (innermost s.pending) s.pending h.pending)
 
 pub list_kept : (tokens : List Token) (s : State) → IsSound s → AreSoundTokens (known_of s) tokens → IsKept s (record s { pending = with_list tokens s.pending })
 list_kept tokens s h g = front_kept s h tokens g
@@ -205,12 +229,49 @@ register_kept code n s h =
 
 pub look_kept : (code : ℕ) (place : Option ℕ) (s : State) → IsSound s → Keeps TellsNegatable s (look_by code place s)
 unfolding look_parameter
-look_kept code None s h = (kept_itself s h, parameter_negatable (known_of s) s.copies code h.copies)
+look_kept code None s h = (
+  kept_itself s h,
+  either IsAboveLowest (code == inputlineno_code) (Acts.line_shown s) (Acts.parameter_of s.copies code) (above_lowest (min (line_number s.pending) 2147483647))
+      (parameter_negatable (known_of s) s.copies code h.copies),
+)
 look_kept code (Some place) s h = register_kept code (pos place) s h
+
+-- the codes of characters, and quantities that take a number
+numbered_kept : (code : ℕ) (n : ℤ) (s : State) → IsSound s → Keeps TellsNegatable s (Acts.look_numbered code n s)
+unfolding Acts.look_numbered Acts.look_code
+numbered_kept code n s h =
+    either (Keeps TellsNegatable s) (Acts.is_character_code code) _ _
+    (either (Keeps TellsNegatable s) (Acts.is_byte n) _ _
+    (kept_itself s h, number_of_sound (known_of s) (s.copies.last (Acts.code_key code n)).value (h.copies.last.entries (Acts.code_key code n)).held)
+    (kept_itself s h))
+    (register_kept code n s h)
 
 told_kept : (s : State) (d : Did State Told) → Keeps TellsNegatable s d → Keeps IsSoundTold s d
 told_kept s (Ok (tells, t)) h = (h.0, tt)
 told_kept s (Err (stop, t)) h = h
+
+-- ---- lists
+
+list_of_sound : (k : Known) (v : Value) → IsSoundValue k v → AreSoundTokens k (Acts.list_of v)
+list_of_sound k (value.Number n) h = tt
+list_of_sound k (value.Glue g) h = tt
+list_of_sound k (value.Tokens list) h = h
+list_of_sound k (value.Meaning m) h = tt
+
+held_kept : (e : Key) (s : State) → IsSound s → IsKept s (Acts.with_held e s)
+held_kept e s h = front_kept s h (Acts.list_of (s.copies.last e).value) (list_of_sound (known_of s) (s.copies.last e).value (h.copies.last.entries e).held)
+
+put_register_kept : (n : ℤ) (s : State) → IsSound s → Keeps IsSoundTold s (Acts.put_register n s)
+unfolding Acts.put_register pass_register
+put_register_kept n s h =
+    either (Keeps IsSoundTold s) (Acts.is_register s.copies.extended n) _ _ (held_kept (key.Register Toks (Acts.place_of n)) s h, tt)
+    (keeps_did Anything IsSoundTold s (pass_register n s) (λ r. Ok (told.Done, Acts.with_held (key.Register Toks 0) r.1)) (pass_kept _ s h)
+    (λ a t k b. (held_kept (key.Register Toks 0) t k.sound, tt)))
+
+parameter_list_kept : (code : ℕ) (s : State) → IsSound s → IsKept s (Acts.with_parameter_list code s)
+parameter_list_kept code s h =
+    either (IsKept s) (is_from_to output_code errhelp_code code) (Acts.with_held (key.Parameter (code - pretolerance_code)) s) s
+    (held_kept (key.Parameter (code - pretolerance_code)) s h) (kept_itself s h)
 
 -- ---- conditions
 
@@ -223,7 +284,8 @@ unfolding leave
 leave_kept word level s h =
     either (Keeps IsSoundTold s) (nat_lt level (Acts.count_open s)) _ _
     (either (Keeps IsSoundTold s) (word == 0) _ _ (conditions_kept s h _, tt) (kept_itself s h, tt))
-    (either (Keeps IsSoundTold s) (word == 0) _ _ (conditions_kept s h _, tt) (conditions_kept s h _, tt))
+    (either (Keeps IsSoundTold s) (word == 0) _ _ (conditions_kept s h _, tt)
+    (either (Keeps IsSoundTold s) (word == 2) _ _ (kept_itself s h, tt) (conditions_kept s h _, tt)))
 
 extra_kept : (word : BranchWord) (s : State) → IsSound s → Keeps IsSoundTold s (Acts.passed_extra word s)
 extra_kept word s h = done_kept s h (pass (Acts.extra word) s) (pass_kept (Acts.extra word) s h)
@@ -344,17 +406,60 @@ read_file_kept o name s h =
     keeps_all_from IsSoundTold s (with_job (file_of name) s) (open_file o (file_of name) (with_job (file_of name) s)) kept
     (open_file_kept o (file_of name) (with_job (file_of name) s) kept.sound)
 
+-- ---- names of which one thing is done
+
+job_name_kept : (s : State) → IsSound s → IsKept s (with_job_name (with_any_job s))
+job_name_kept s h =
+    let kept : IsKept s (with_any_job s) = any_job_kept s h in
+    kept_then s (with_any_job s) (with_job_name (with_any_job s)) kept (bytes_kept (with_any_job s) kept.sound (with_any_job s).facts.job)
+
+-- a token that was taken, with its flag
+abbrev IsSoundPair : Known → Token × Bool → Type 0
+IsSoundPair k r = IsSoundToken k r.0
+
+-- what is done with it
+then_kept : (s : State) (f : (Token × Bool) × State → Did State Told) → IsSound s
+    → ((r : Token × Bool) (t : State) → IsSound t → IsSoundToken (known_of t) r.0 → Keeps IsSoundTold t (f (r, t))) → Keeps IsSoundTold s (did.◌>>=◌ (one_token s) f)
+then_kept s f h g = keeps_did IsSoundPair IsSoundTold s (one_token s) f (one_token_kept s h) (λ r t k i. g r t k.sound i)
+
+no_expand_kept : (s : State) → IsSound s → Keeps IsSoundTold s (Acts.no_expand s)
+unfolding Acts.no_expand
+no_expand_kept s h = then_kept s Acts.mark h (λ r t i g. (pending_kept t i _ (g, i.pending), tt))
+
+show_token_kept : (s : State) → IsSound s → Keeps IsSoundTold s (Acts.show_token s)
+unfolding Acts.show_token
+show_token_kept s h = then_kept s Acts.with_string h (λ r t i g. (bytes_kept t i _, tt))
+
+show_meaning_kept : (s : State) → IsSound s → Keeps IsSoundTold s (Acts.show_meaning s)
+unfolding Acts.show_meaning
+show_meaning_kept s h = then_kept s Acts.with_meaning_text h (λ r t i g. (bytes_kept t i _, tt))
+
+compare_kept : (s : State) → IsSound s → Keeps IsSoundTold s (Acts.compare_meanings s)
+unfolding Acts.compare_meanings
+compare_kept s h = then_kept s Acts.with_first h (λ a t i g. then_kept t (Acts.with_second a) i (λ b u j e. (kept_itself u j, tt)))
+
+simply_kept : (thing : Simple) (s : State) → IsSound s → Keeps IsSoundTold s (Acts.simply thing s)
+unfolding Acts.simply
+simply_kept simple.EndInput s h = (input_ended_kept s h, tt)
+simply_kept simple.NoExpand s h = no_expand_kept s h
+simply_kept simple.TokenText s h = show_token_kept s h
+simply_kept simple.MeaningText s h = show_meaning_kept s h
+simply_kept simple.JobName s h = (job_name_kept s h, tt)
+
 -- ---- all of them
 
 pub perform_kept : (o : Outside) (a : Act) (s : State) → IsSound s → IsSoundAct (known_of s) a → KeepsAll IsSoundTold s (perform o a s)
-unfolding perform Acts.refused
+unfolding perform Acts.refused Acts.cant_use
 perform_kept o (act.Return t) s h g = keeps_still IsSoundTold s _ (token_kept s h t g, tt)
 perform_kept o (act.InsertRelax t) s h g = keeps_still IsSoundTold s _ (relax_kept s h t g, tt)
 perform_kept o (act.Pass kind back) s h g = keeps_still IsSoundTold s _ (passing_kept kind back s h g)
 perform_kept o (act.PassUndefined t) s h g = keeps_still IsSoundTold s _ (undefined_kept t s h)
 perform_kept o (act.Look q) s h g = keeps_still IsSoundTold s _ (told_kept s _ (look_kept q.code q.index s h))
-perform_kept o (act.LookRegister code n) s h g = keeps_still IsSoundTold s _ (told_kept s _ (register_kept code (first_number n) s h))
-perform_kept o (act.Digits n) s h g = keeps_still IsSoundTold s _ (digits_kept s h n, tt)
+perform_kept o (act.LookNumbered code n) s h g = keeps_still IsSoundTold s _ (told_kept s _ (numbered_kept code (first_number n) s h))
+perform_kept o (act.PutRegister n) s h g = keeps_still IsSoundTold s _ (put_register_kept (first_number n) s h)
+perform_kept o (act.PutParameter code) s h g = keeps_still IsSoundTold s _ (parameter_list_kept code s h, tt)
+perform_kept o (act.CantUse t) s h g = keeps_still IsSoundTold s _ (kept_itself s h)
+perform_kept o (act.Digits numerals n) s h g = keeps_still IsSoundTold s _ (bytes_kept s h (Acts.digits numerals n), tt)
 perform_kept o (act.Text body arguments) s h g = keeps_still IsSoundTold s _ (text_kept s h body arguments g.0 g.1, tt)
 perform_kept o (act.Refuse name refusal) s h g = keeps_still IsSoundTold s _ (kept_itself s h)
 perform_kept o (act.Open kind) s h g = keeps_still IsSoundTold s _ (open_kept kind s h)
@@ -364,3 +469,7 @@ perform_kept o act.Close s h g = keeps_still IsSoundTold s _ (conditions_kept s 
 perform_kept o (act.Meet t word) s h g = keeps_still IsSoundTold s _ (meet_kept t word s h g)
 perform_kept o (act.MakeName text) s h g = keeps_still IsSoundTold s _ (make_kept text s h)
 perform_kept o (act.ReadFile name) s h g = read_file_kept o name s h
+perform_kept o (act.AskMode asks) s h g = keeps_still IsSoundTold s _ (kept_itself s h, tt)
+perform_kept o (act.AskMarked t) s h g = keeps_still IsSoundTold s _ (kept_itself s h, tt)
+perform_kept o act.AskSame s h g = keeps_still IsSoundTold s _ (compare_kept s h)
+perform_kept o (act.Simple thing) s h g = keeps_still IsSoundTold s _ (simply_kept thing s h)

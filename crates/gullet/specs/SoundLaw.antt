@@ -12,12 +12,14 @@ use Rattle.gullet.specs.declared.task.Want.{Want}
 use Rattle.gullet.specs.Acts.{look_by, look_register, perform}
 use Rattle.gullet.specs.Events.{take_event}
 use Rattle.gullet.specs.Expansion.{by_want, rules, outcome}
+use Rattle.gullet.specs.RawToken.{next_raw}
 use Rattle.gullet.specs.State.{State}
 use Rattle.gullet.specs.Wants.{Taken, wants}
 use Rattle.gullet.specs.Sound.{Known, IsSoundToken, AreSoundTokens, IsSoundEvent, IsSound, known_of}
 use Rattle.gullet.specs.SoundPhrases.{IsSoundTask, IsSoundTold, AreSoundTaken, IsSoundAct, IsSoundWant, IsSoundFound}
 use Rattle.gullet.specs.SoundKept.{IsKept, Keeps, KeepsAll}
 use Rattle.gullet.specs.SoundTaking.{event_kept}
+use Rattle.gullet.specs.SoundRaw.{IsSoundRaw, next_raw_kept}
 use Rattle.gullet.specs.SoundWants.{wants_sound}
 use Rattle.gullet.specs.SoundActs.{TellsNegatable, pending_kept, list_kept, register_kept, look_kept, perform_kept}
 use Rattle.gullet.specs.SoundStart.{IsStart, start_sound}
@@ -31,6 +33,7 @@ pub record SoundLaw : Type 0 where
   pub back : (t : Token) (noexpand paid : Bool) (s : State) → IsSound s → IsSoundToken (known_of s) t → IsKept s (record s { pending = with_back t noexpand paid s.pending })
   -- what comes next
   pub event : (s : State) → IsSound s → Keeps IsSoundEvent s (take_event s)
+  pub next_raw : (s : State) → IsSound s → Keeps IsSoundRaw s (next_raw s)
   -- what is done
   pub act : (o : Outside) (act : Act) (s : State) → IsSound s → IsSoundAct (known_of s) act → KeepsAll IsSoundTold s (perform o act s)
   -- what is looked at is a number that has a negative
@@ -50,6 +53,7 @@ sound_law = record {
   pushed = list_kept;
   back = λ t noexpand paid s h g. pending_kept s h (with_back t noexpand paid s.pending) (g, h.pending);
   event = event_kept;
+  next_raw = next_raw_kept;
   act = perform_kept;
   look = look_kept;
   look_register = register_kept;

@@ -19,13 +19,15 @@ IsSoundTask k (task.QuantityValue q) = Unit {0}
 IsSoundTask k (task.Undefined t) = IsSoundToken k t
 IsSoundTask k (task.Call name called) = IsSoundToken k name × IsSoundMacro k called
 IsSoundTask k task.ExpandAfter = Unit {0}
-IsSoundTask k task.NumberText = Unit {0}
-IsSoundTask k task.IfNumber = Unit {0}
-IsSoundTask k task.PassOver = Unit {0}
+IsSoundTask k task.The = Unit {0}
+IsSoundTask k (task.NumberText numerals) = Unit {0}
+IsSoundTask k (task.If asks) = Unit {0}
+IsSoundTask k (task.PassOver sought) = Unit {0}
 IsSoundTask k (task.BranchEnd t word) = IsSoundToken k t
 IsSoundTask k task.NameText = Unit {0}
 IsSoundTask k (task.Input t) = IsSoundToken k t
 IsSoundTask k task.FileName = Unit {0}
+IsSoundTask k (task.Simple thing) = Unit {0}
 
 abbrev pub IsSoundSomeTask : Known → Option Task → Type 0
 IsSoundSomeTask k None = Unit {0}
@@ -52,8 +54,11 @@ IsSoundAct k (act.InsertRelax t) = IsSoundToken k t
 IsSoundAct k (act.Pass kind back) = IsSoundSome k back
 IsSoundAct k (act.PassUndefined t) = IsSoundToken k t
 IsSoundAct k (act.Look q) = Unit {0}
-IsSoundAct k (act.LookRegister code n) = Unit {0}
-IsSoundAct k (act.Digits n) = Unit {0}
+IsSoundAct k (act.LookNumbered code n) = Unit {0}
+IsSoundAct k (act.PutRegister n) = Unit {0}
+IsSoundAct k (act.PutParameter code) = Unit {0}
+IsSoundAct k (act.CantUse t) = IsSoundToken k t
+IsSoundAct k (act.Digits numerals n) = Unit {0}
 IsSoundAct k (act.Text body arguments) = AllByRecursion (IsSoundBeside (λ number. Unit {0}) k) body × AllByRecursion (AreSoundTokens k) arguments
 IsSoundAct k (act.Refuse name refusal) = IsSoundToken k name
 IsSoundAct k (act.Open kind) = Unit {0}
@@ -63,6 +68,10 @@ IsSoundAct k act.Close = Unit {0}
 IsSoundAct k (act.Meet t word) = IsSoundToken k t
 IsSoundAct k (act.MakeName text) = Unit {0}
 IsSoundAct k (act.ReadFile name) = Unit {0}
+IsSoundAct k (act.AskMode asks) = Unit {0}
+IsSoundAct k (act.AskMarked t) = IsSoundToken k t
+IsSoundAct k act.AskSame = Unit {0}
+IsSoundAct k (act.Simple thing) = Unit {0}
 
 abbrev pub IsSoundWant : Known → Want → Type 0
 IsSoundWant k want.Raw = Unit {0}

@@ -1,5 +1,5 @@
 -- Turns of phrases keep the condition, and so does all that a phrase comes to.
-use Rattle.std.specs.Prelude.{refl, ℕ, Bool, true, false, List, [], ◌∷◌, ◌++◌, Option, Some, None, Ok}
+use Rattle.std.specs.Prelude.{is_some, refl, ℕ, Bool, true, false, List, [], ◌∷◌, ◌++◌, Option, Some, None, Ok}
 use Rattle.std.proofs.Common.{zero, suc, arith}
 use Rattle.tokens.specs.Codes.{relax_code}
 use Rattle.tokens.specs.Names.{name_at}
@@ -67,7 +67,7 @@ module _ (k : Known) where
 
   taken_sound : (c : Copies) (t : Token) (noexpand : Bool) → AreSoundCopies k c → IsSoundToken k t → IsSoundMeaning k (taken_meaning c t noexpand)
   unfolding taken_meaning
-  taken_sound c t true h g = relax_sound
+  taken_sound c t true h g = either (IsSoundMeaning k) (is_some (expansion t (meaning_of c t))) _ _ relax_sound (now_sound c t h g)
   taken_sound c t false h g = now_sound c t h g
 
   -- a name of one byte as its character
@@ -154,13 +154,15 @@ task_grown k l g (task.QuantityValue q) h = h
 task_grown k l g (task.Undefined t) h = token_grown k l g t h
 task_grown k l g (task.Call name called) h = (token_grown k l g name h.0, meaning_grown k l g (meaning.Macro called) h.1)
 task_grown k l g task.ExpandAfter h = h
-task_grown k l g task.NumberText h = h
-task_grown k l g task.IfNumber h = h
-task_grown k l g task.PassOver h = h
+task_grown k l g task.The h = h
+task_grown k l g (task.NumberText numerals) h = h
+task_grown k l g (task.If asks) h = h
+task_grown k l g (task.PassOver sought) h = h
 task_grown k l g (task.BranchEnd t word) h = token_grown k l g t h
 task_grown k l g task.NameText h = h
 task_grown k l g (task.Input t) h = token_grown k l g t h
 task_grown k l g task.FileName h = h
+task_grown k l g (task.Simple thing) h = h
 
 module _ (o : Outside) where
   -- a phrase begins

@@ -1,14 +1,18 @@
 -- What phrases want of what is sound, is sound.
-use Rattle.std.specs.Prelude.{ℕ, ◌==◌, ◌++◌, Bool, true, false, List, [], ◌∷◌, map, Option, Some, None}
+use Rattle.std.specs.Prelude.{ℕ, pos, ◌==◌, ◌++◌, Bool, true, false, List, [], ◌∷◌, map, Option, Some, None}
 use Rattle.std.specs.List.{AllByRecursion}
-use Rattle.tokens.specs.Codes.{input_code, expandafter_code, csname_code, number_code, ifnum_code, else_code, or_code, fi_code}
+use Rattle.tokens.specs.Codes.{input_code, the_code, expandafter_code, toks_code, csname_code, number_code, romannumeral_code, else_code, or_code, fi_code}
 use Rattle.tokens.specs.declared.kind.Kind.TheVariants.{MissingEndcsname}
 use Rattle.tokens.specs.declared.token.Token.{Token}
 use Rattle.tokens.specs.declared.token.Token.TheVariants as token
 use Rattle.tokens.specs.declared.meaning.Macro.{Macro}
 use Rattle.tokens.specs.declared.meaning.Meaning.{Meaning}
 use Rattle.tokens.specs.declared.meaning.Meaning.TheVariants as meaning
+use Rattle.tokens.specs.declared.meaning.RegKind.{RegKind}
+use Rattle.tokens.specs.declared.meaning.RegKind.TheVariants.{Count, Dimen, Skip, Muskip, Box, Toks}
+use Rattle.tokens.specs.Codes.{count_code, dimen_code, skip_code, muskip_code}
 use Rattle.scan_nums.specs.declared.number.Number.{Number}
+use Rattle.scan_nums.specs.declared.number.Number.TheVariants as number
 use Rattle.scan_nums.specs.declared.number.Quantity.{Quantity}
 use Rattle.scan_nums.specs.declared.verdict.Verdict.{Verdict}
 use Rattle.scan_nums.specs.declared.verdict.Verdict.TheVariants as verdict
@@ -20,13 +24,21 @@ use Rattle.conditionals.specs.Branches.{Stopping, stop_of}
 use Rattle.gullet.specs.declared.context.Context.{Context}
 use Rattle.gullet.specs.declared.task.Task.{Task}
 use Rattle.gullet.specs.declared.task.Task.TheVariants as task
+use Rattle.gullet.specs.declared.task.Test.{Test}
+use Rattle.gullet.specs.declared.task.Test.TheVariants as test
+use Rattle.gullet.specs.declared.task.Simple.{Simple}
+use Rattle.gullet.specs.declared.task.Numerals.{Numerals}
+use Rattle.gullet.specs.declared.task.Numerals.TheVariants.{Decimal}
+use Rattle.gullet.specs.declared.task.Part.{Part}
+use Rattle.gullet.specs.declared.task.Glyph.{Glyph}
 use Rattle.gullet.specs.declared.task.Told.{Told}
 use Rattle.gullet.specs.declared.task.Told.TheVariants as told
+use Rattle.gullet.specs.declared.task.Act.{Act}
 use Rattle.gullet.specs.declared.task.Act.TheVariants as act
 use Rattle.gullet.specs.declared.task.Want.{Want}
 use Rattle.gullet.specs.declared.task.Want.TheVariants as want
 use Rattle.gullet.specs.declared.task.BranchWord.{BranchWord}
-use Rattle.gullet.specs.Meanings.{expansion, expansion_of_code}
+use Rattle.gullet.specs.Meanings.{is_looked_at, expansion, expansion_of_code, as_task, test_of, simple_of}
 use Rattle.gullet.specs.Wants
 use Rattle.gullet.specs.Wants.{Taken, Tok, Got, Was, done, scanned, last_token, given_back, number_want, told_of, goes_on, word_told, token_of, byte_of, letter_of, only, relation_of, tokens_in, was_done, matching, wants}
 use Rattle.gullet.specs.Sound.{Known, IsSoundBeside, IsParameter, IsSoundToken, AreSoundTokens, IsSoundSome, IsSoundMacro, IsSoundMeaning}
@@ -65,16 +77,22 @@ module _ (k : Known) where
 
   -- ---- expansions
 
+  as_task_sound : (asks : Option Test) (thing : Option Simple) → IsSoundSomeTask k (as_task asks thing)
+  as_task_sound (Some asks) thing = tt
+  as_task_sound None None = tt
+  as_task_sound None (Some thing) = tt
+
   code_sound : (t : Token) (code : ℕ) → IsSoundToken k t → IsSoundSomeTask k (expansion_of_code t code)
   code_sound t code h =
       either (IsSoundSomeTask k) (code == input_code) _ _ h
+      (either (IsSoundSomeTask k) (code == the_code) _ _ tt
       (either (IsSoundSomeTask k) (code == expandafter_code) _ _ tt
       (either (IsSoundSomeTask k) (code == csname_code) _ _ tt
       (either (IsSoundSomeTask k) (code == number_code) _ _ tt
-      (either (IsSoundSomeTask k) (code == ifnum_code) _ _ tt
+      (either (IsSoundSomeTask k) (code == romannumeral_code) _ _ tt
       (either (IsSoundSomeTask k) (code == else_code) _ _ h
       (either (IsSoundSomeTask k) (code == or_code) _ _ h
-      (either (IsSoundSomeTask k) (code == fi_code) _ _ h tt)))))))
+      (either (IsSoundSomeTask k) (code == fi_code) _ _ h (as_task_sound (test_of code) (simple_of code))))))))))
 
   pub expansion_sound : (t : Token) (m : Meaning) → IsSoundToken k t → IsSoundMeaning k m → IsSoundSomeTask k (expansion t m)
   expansion_sound t meaning.Undefined h g = h
@@ -119,7 +137,7 @@ module _ (k : Known) where
 
   quantity_sound : (q : Quantity) (place : Option ℕ) (taken : List Taken) → IsSoundWant k (Wants.quantity_by q place taken)
   quantity_sound q None taken =
-      either (IsSoundWant k) (Wants.is_register_code q.code) (Wants.register_want q.code taken) (Wants.looked_up q taken) (register_sound q.code taken) (looked_sound q taken)
+      either (IsSoundWant k) (Wants.takes_number q.code) (Wants.register_want q.code taken) (Wants.looked_up q taken) (register_sound q.code taken) (looked_sound q taken)
   quantity_sound q (Some place) taken = looked_sound q taken
 
   -- ---- \expandafter and \number
@@ -143,9 +161,46 @@ module _ (k : Known) where
   expand_after_sound [] h = tt
   expand_after_sound (x ∷ rest) h = behind_first_sound (token_of x) rest (token_of_sound x h.0) h.1
 
-  number_text_sound : (taken : List Taken) → IsSoundWant k (Wants.number_text_want taken)
-  number_text_sound [] = tt
-  number_text_sound (x ∷ rest) = only_sound (want.Act (act.Digits (Wants.number_told (told_of x)))) rest tt
+  number_text_sound : (numerals : Numerals) (taken : List Taken) → IsSoundWant k (Wants.number_text_want numerals taken)
+  number_text_sound numerals [] = tt
+  number_text_sound numerals (x ∷ rest) = only_sound (want.Act (act.Digits numerals (Wants.number_told (told_of x)))) rest tt
+
+  shown_sound : (q : Quantity) (taken : List Taken) → IsSoundWant k (Wants.shown_want q taken)
+  shown_sound q [] = tt
+  shown_sound q (x ∷ rest) = only_sound (want.Act (act.Digits Decimal (Wants.number_told (told_of x)))) rest tt
+
+  toks_sound : (taken : List Taken) → IsSoundWant k (Wants.toks_want taken)
+  toks_sound [] = tt
+  toks_sound (x ∷ rest) = only_sound (want.Act (act.PutRegister (Wants.number_told (told_of x)))) rest tt
+
+  the_primitive_sound : (t : Token) (code : ℕ) (taken : List Taken) → IsSoundToken k t → IsSoundWant k (Wants.the_primitive t code taken)
+  the_primitive_sound t code taken h =
+      either (IsSoundWant k) (is_looked_at code) _ _ (shown_sound (Wants.quantity code None) taken)
+      (either (IsSoundWant k) (code == toks_code) _ _ (toks_sound taken)
+      (either (IsSoundWant k) (Wants.is_token_parameter_code code) _ _ (only_sound (want.Act (act.PutParameter code)) taken tt)
+      (only_sound (want.Act (act.CantUse t)) taken h)))
+
+  the_register_sound : (t : Token) (kind : RegKind) (place : ℕ) (taken : List Taken) → IsSoundToken k t → IsSoundWant k (Wants.the_register t kind place taken)
+  the_register_sound t Count place taken h = shown_sound (Wants.quantity count_code (Some place)) taken
+  the_register_sound t Dimen place taken h = shown_sound (Wants.quantity dimen_code (Some place)) taken
+  the_register_sound t Skip place taken h = shown_sound (Wants.quantity skip_code (Some place)) taken
+  the_register_sound t Muskip place taken h = shown_sound (Wants.quantity muskip_code (Some place)) taken
+  the_register_sound t Box place taken h = only_sound (want.Act (act.CantUse t)) taken h
+  the_register_sound t Toks place taken h = only_sound (want.Act (act.PutRegister (number.Int (pos place)))) taken tt
+
+  the_sound : (t : Token) (m : Meaning) (taken : List Taken) → IsSoundToken k t → IsSoundWant k (Wants.the_value t m taken)
+  the_sound t meaning.Undefined taken h = only_sound (want.Act (act.CantUse t)) taken h
+  the_sound t (meaning.Primitive code) taken h = the_primitive_sound t code taken h
+  the_sound t (meaning.Macro m) taken h = only_sound (want.Act (act.CantUse t)) taken h
+  the_sound t (meaning.Char cat byte) taken h = only_sound (want.Act (act.CantUse t)) taken h
+  the_sound t (meaning.CharDef byte) taken h = only_sound (want.Act (act.Digits Decimal (number.Int (pos byte)))) taken tt
+  the_sound t (meaning.MathCharDef n) taken h = only_sound (want.Act (act.Digits Decimal (number.Int (pos n)))) taken tt
+  the_sound t (meaning.Register kind place) taken h = the_register_sound t kind place taken h
+  the_sound t (meaning.Font font) taken h = only_sound (want.Act (act.CantUse t)) taken h
+
+  the_want_sound : (taken : List Taken) → AreSoundTaken k taken → IsSoundWant k (Wants.the_want taken)
+  the_want_sound [] h = tt
+  the_want_sound (x ∷ rest) h = the_sound (token_of x) (Wants.meaning_of x) rest (token_of_sound x h.0)
 
   -- ---- conditions
 
@@ -180,9 +235,68 @@ module _ (k : Known) where
   first_number_sound level [] = tt
   first_number_sound level (x ∷ rest) = relation_sound level (Wants.number_told (told_of x)) rest
 
-  if_number_sound : (taken : List Taken) → IsSoundWant k (Wants.if_number_want taken)
-  if_number_sound [] = tt
-  if_number_sound (x ∷ rest) = first_number_sound (Wants.level_told (told_of x)) rest
+  odd_sound : (level : ℕ) (taken : List Taken) → IsSoundWant k (Wants.odd_want level taken)
+  odd_sound level [] = tt
+  odd_sound level (x ∷ rest) = decided_sound (Wants.is_odd (first_number (Wants.number_told (told_of x)))) level rest
+
+  asked_sound : (question : Act) (level : ℕ) (taken : List Taken) → IsSoundWant k (want.Act question) → IsSoundWant k (Wants.asked_want question level taken)
+  asked_sound question level [] h = h
+  asked_sound question level (x ∷ rest) h = decided_sound (Wants.holds_told (told_of x)) level rest
+
+  second_asked_sound : (p : Part) (level : ℕ) (a : Option Glyph) (t : Token) (taken : List Taken) → IsSoundToken k t → IsSoundWant k (Wants.second_asked p level a t taken)
+  second_asked_sound p level a t [] h = h
+  second_asked_sound p level a t (x ∷ rest) h = decided_sound (Wants.alike p a (Wants.glyph_if (Wants.holds_told (told_of x)) t)) level rest
+
+  glyph_sound : (p : Part) (level : ℕ) (a : Option Glyph) (taken : List Taken) → AreSoundTaken k taken → IsSoundWant k (Wants.second_want_of p level a taken)
+  glyph_sound p level a [] h = tt
+  glyph_sound p level a (x ∷ rest) h =
+      either (IsSoundWant k) (Wants.may_be_marked (token_of x) (Wants.meaning_of x)) _ _
+      (second_asked_sound p level a (token_of x) rest (token_of_sound x h.0))
+      (decided_sound (Wants.alike p a (Wants.glyph_of (Wants.meaning_of x))) level rest)
+
+  first_asked_sound : (p : Part) (level : ℕ) (t : Token) (taken : List Taken) → IsSoundToken k t → AreSoundTaken k taken → IsSoundWant k (Wants.first_asked p level t taken)
+  first_asked_sound p level t [] h g = h
+  first_asked_sound p level t (x ∷ rest) h g = glyph_sound p level (Wants.glyph_if (Wants.holds_told (told_of x)) t) rest g.1
+
+  alike_sound : (p : Part) (level : ℕ) (taken : List Taken) → AreSoundTaken k taken → IsSoundWant k (Wants.alike_want p level taken)
+  alike_sound p level [] h = tt
+  alike_sound p level (x ∷ rest) h =
+      either (IsSoundWant k) (Wants.may_be_marked (token_of x) (Wants.meaning_of x)) _ _
+      (first_asked_sound p level (token_of x) rest (token_of_sound x h.0) h.1)
+      (glyph_sound p level (Wants.glyph_of (Wants.meaning_of x)) rest h.1)
+
+  cases_by_sound : (further : Option ℕ → Want) (again : Want) (level : ℕ) (left : Option ℕ) (tells : Told) (taken : List Taken)
+      → ((fewer : Option ℕ) → IsSoundWant k (further fewer)) → IsSoundWant k again → IsSoundWant k (Wants.cases_by further again level left tells taken)
+  cases_by_sound further again level left tells taken h g =
+      either (IsSoundWant k) (goes_on tells) _ _ g
+      (either (IsSoundWant k) (word_told tells == 2) _ _
+      (either (IsSoundWant k) (Wants.is_reached (Wants.one_less left)) _ _ (only_sound (want.Act (act.Choose level)) taken tt) (h (Wants.one_less left))) tt)
+
+  cases_sound : (level : ℕ) (left : Option ℕ) (taken : List Taken) → IsSoundWant k (Wants.cases_want level left taken)
+  cases_sound level left [] = tt
+  cases_sound level left (x ∷ []) = tt
+  cases_sound level left (x ∷ y ∷ rest) =
+      cases_by_sound (λ fewer. Wants.cases_want level fewer rest) (Wants.cases_want level left rest) level left (told_of y) rest (λ fewer. cases_sound level fewer rest)
+      (cases_sound level left rest)
+
+  case_sound : (level : ℕ) (taken : List Taken) → IsSoundWant k (Wants.case_want level taken)
+  case_sound level [] = tt
+  case_sound level (x ∷ rest) =
+      let left : Option ℕ = Wants.cases_before (first_number (Wants.number_told (told_of x))) in
+      either (IsSoundWant k) (Wants.is_reached left) _ _ (only_sound (want.Act (act.Choose level)) rest tt) (cases_sound level left rest)
+
+  test_sound : (asks : Test) (level : ℕ) (taken : List Taken) → AreSoundTaken k taken → IsSoundWant k (Wants.test_want asks level taken)
+  test_sound (test.Alike p) level taken h = alike_sound p level taken h
+  test_sound test.Number level taken h = first_number_sound level taken
+  test_sound test.Odd level taken h = odd_sound level taken
+  test_sound (test.Mode m) level taken h = asked_sound (act.AskMode m) level taken tt
+  test_sound test.SameMeaning level taken h = asked_sound act.AskSame level taken tt
+  test_sound (test.Always b) level taken h = decided_sound b level taken
+  test_sound test.Case level taken h = case_sound level taken
+
+  if_sound : (asks : Test) (taken : List Taken) → AreSoundTaken k taken → IsSoundWant k (Wants.if_want asks taken)
+  if_sound asks [] h = tt
+  if_sound asks (x ∷ rest) h = test_sound asks (Wants.level_told (told_of x)) rest h.1
 
   to_fi_sound : (taken : List Taken) → IsSoundWant k (Wants.to_fi_want taken)
   to_fi_sound [] = tt
@@ -266,10 +380,12 @@ module _ (k : Known) where
       used_sound name called (was_done taken) (use_of (matching called) called.params (tokens_in taken)) h.0 h.1
       (use_holds (IsSoundToken k) (matching called) called.params (tokens_in taken) (in_sound taken g))
   wants_sound c task.ExpandAfter taken h g = expand_after_sound taken g
-  wants_sound c task.NumberText taken h g = number_text_sound taken
-  wants_sound c task.IfNumber taken h g = if_number_sound taken
-  wants_sound c task.PassOver taken h g = pass_over_sound (stop_of 0 (map Wants.meaning_of taken))
+  wants_sound c task.The taken h g = the_want_sound taken g
+  wants_sound c (task.NumberText numerals) taken h g = number_text_sound numerals taken
+  wants_sound c (task.If asks) taken h g = if_sound asks taken g
+  wants_sound c (task.PassOver sought) taken h g = pass_over_sound (stop_of sought (map Wants.meaning_of taken))
   wants_sound c (task.BranchEnd t word) taken h g = branch_end_sound t word taken h
   wants_sound c task.NameText taken h g = name_sound [] taken
   wants_sound c (task.Input t) taken h g = input_sound t c.naming taken h
   wants_sound c task.FileName taken h g = file_sound taken g
+  wants_sound c (task.Simple thing) taken h g = only_sound (want.Act (act.Simple thing)) taken tt

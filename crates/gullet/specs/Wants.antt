@@ -1,12 +1,14 @@
 -- What a phrase wants next, by its kind and what it has taken, the earliest first (The TeXbook, chapters 20 and 24).
-use Rattle.std.specs.Prelude.{ℕ, ℤ, pos, negsuc, ◌==◌, nat_lt, int_lt, int_le, ◌&&◌, Bool, true, false, if◌then◌else◌, List, [], ◌∷◌, ◌++◌, map, Option, Some, None, codes}
-use Rattle.tokens.specs.Codes.{endcsname_code, par_code}
+use Rattle.std.specs.Prelude.{ℕ, ℤ, pos, negsuc, ◌==◌, ◌-◌, ◌%◌, unsigned_abs, nat_lt, int_lt, int_le, ◌&&◌, ◌||◌, Bool, true, false, if◌then◌else◌, List, [], ◌∷◌, ◌++◌, map, Option, Some, None, codes}
+use Rattle.tokens.specs.Codes.{endcsname_code, par_code, relax_code}
 use Rattle.tokens.specs.declared.kind.Kind.TheVariants.{MissingRelation, MissingEndcsname, LeftOut}
 use Rattle.tokens.specs.declared.token.Token.{Token}
 use Rattle.tokens.specs.declared.token.Token.TheVariants as token
 use Rattle.tokens.specs.declared.meaning.Macro.{Macro}
 use Rattle.tokens.specs.declared.meaning.Meaning.{Meaning}
 use Rattle.tokens.specs.declared.meaning.Meaning.TheVariants as meaning
+use Rattle.tokens.specs.declared.meaning.RegKind.{RegKind}
+use Rattle.tokens.specs.declared.meaning.RegKind.TheVariants.{Count, Dimen, Skip, Muskip, Box, Toks}
 use Rattle.scaled.specs.declared.spacing.Glue.{Glue}
 use Rattle.scan_nums.specs.Number.{first_number}
 use Rattle.scan_nums.specs.declared.number.Number.{Number}
@@ -24,14 +26,24 @@ use Rattle.conditionals.specs.Branches.{Stopping, stop_of}
 use Rattle.gullet.specs.declared.context.Context.{Context}
 use Rattle.gullet.specs.declared.task.Task.{Task}
 use Rattle.gullet.specs.declared.task.Task.TheVariants as task
+use Rattle.gullet.specs.declared.task.Test.{Test}
+use Rattle.gullet.specs.declared.task.Test.TheVariants as test
+use Rattle.gullet.specs.declared.task.ModeTest.{ModeTest}
+use Rattle.gullet.specs.declared.task.ModeTest.TheVariants as mode
+use Rattle.gullet.specs.declared.task.Numerals.{Numerals}
+use Rattle.gullet.specs.declared.task.Numerals.TheVariants.{Decimal}
+use Rattle.gullet.specs.declared.task.Part.{Part}
+use Rattle.gullet.specs.declared.task.Part.TheVariants as part
+use Rattle.gullet.specs.declared.task.Glyph.{Glyph}
 use Rattle.gullet.specs.declared.task.Told.{Told}
 use Rattle.gullet.specs.declared.task.Told.TheVariants as told
+use Rattle.gullet.specs.declared.task.Act.{Act as Deed}
 use Rattle.gullet.specs.declared.task.Act.TheVariants as act
 use Rattle.gullet.specs.declared.task.Want.{Want}
 use Rattle.gullet.specs.declared.task.Want.TheVariants.{Raw, Expanded, Character, Act, Inner, Gives, Wrong}
 use Rattle.gullet.specs.declared.task.BranchWord.{BranchWord}
-use Rattle.gullet.specs.Meanings.{expansion}
-use Rattle.tokens.specs.Codes.{count_code, muskip_code}
+use Rattle.gullet.specs.Meanings.{expansion, is_looked_at}
+use Rattle.tokens.specs.Codes.{count_code, dimen_code, skip_code, muskip_code, toks_code, catcode_code, delcode_code, output_code, errhelp_code}
 
 -- what a phrase has taken: a token with the meaning that it had then, what an inner phrase told, or what was told by
 -- something that was done
@@ -69,6 +81,7 @@ number_told (told.Word word) = number.Int (pos 0)
 number_told (told.Level level) = number.Int (pos 0)
 number_told told.GoOn = number.Int (pos 0)
 number_told (told.Text text) = number.Int (pos 0)
+number_told (told.Holds b) = number.Int (pos 0)
 
 -- an inner phrase answers what was asked for; behind a trouble that was passed over the number goes on
 abbrev pub scanned : Taken → scan.Taken
@@ -103,18 +116,18 @@ abbrev pub whole_number_want : List Taken → Want
 whole_number_want taken =
     number_want (whole_number (map scanned taken)) (wants_character (map scanned taken)) (last_token taken)
 
--- ---- quantities: behind \count and its mates stands the number of a register
+-- ---- quantities: behind \count and its mates stands the number of a register, and behind \catcode and its mates a character
 
 abbrev pub told_of : Taken → Told
 told_of (Tok t m) = told.Done
 told_of (Got tells) = tells
 told_of (Was tells) = tells
 
-abbrev pub is_register_code : ℕ → Bool
-is_register_code code = is_from_to count_code muskip_code code
+abbrev pub takes_number : ℕ → Bool
+takes_number code = is_from_to count_code muskip_code code || is_from_to catcode_code delcode_code code
 
 abbrev pub register_numbered : ℕ → Told → List Taken → Want
-register_numbered code number [] = Act (act.LookRegister code (number_told number))
+register_numbered code number [] = Act (act.LookNumbered code (number_told number))
 register_numbered code number (x ∷ rest) = Gives (told_of x) None
 
 abbrev pub register_want : ℕ → List Taken → Want
@@ -126,7 +139,7 @@ looked_up q [] = Act (act.Look q)
 looked_up q (x ∷ rest) = Gives (told_of x) None
 
 abbrev pub quantity_by : Quantity → Option ℕ → List Taken → Want
-quantity_by q None taken = if is_register_code q.code then register_want q.code taken else looked_up q taken
+quantity_by q None taken = if takes_number q.code then register_want q.code taken else looked_up q taken
 quantity_by q (Some place) taken = looked_up q taken
 
 -- ---- expansions
@@ -166,23 +179,71 @@ abbrev pub expand_after_want : List Taken → Want
 expand_after_want [] = Raw
 expand_after_want (x ∷ rest) = behind_first (token_of x) rest
 
--- \number: a number, and its digits
-abbrev pub digits_want : Told → List Taken → Want
-digits_want number taken = only (Act (act.Digits (number_told number))) taken
+-- \number and \romannumeral: a number, and its digits or numerals (tex.web 471 and 472)
+abbrev pub digits_want : Numerals → Told → List Taken → Want
+digits_want numerals number taken = only (Act (act.Digits numerals (number_told number))) taken
 
-abbrev pub number_text_want : List Taken → Want
-number_text_want [] = Inner task.WholeNumber
-number_text_want (x ∷ rest) = digits_want (told_of x) rest
+abbrev pub number_text_want : Numerals → List Taken → Want
+number_text_want numerals [] = Inner task.WholeNumber
+number_text_want numerals (x ∷ rest) = digits_want numerals (told_of x) rest
+
+-- \the: a quantity and its digits, the number that a name stands for, or the list of a token register or parameter as it
+-- stands (The TeXbook, page 214; tex.web 413 to 419 and 465). Nothing else may stand there (tex.web 428)
+abbrev pub shown_want : Quantity → List Taken → Want
+shown_want q [] = Inner (task.QuantityValue q)
+shown_want q (x ∷ rest) = digits_want Decimal (told_of x) rest
+
+abbrev pub register_list_want : Told → List Taken → Want
+register_list_want number taken = only (Act (act.PutRegister (number_told number))) taken
+
+abbrev pub toks_want : List Taken → Want
+toks_want [] = Inner task.WholeNumber
+toks_want (x ∷ rest) = register_list_want (told_of x) rest
+
+abbrev pub is_token_parameter_code : ℕ → Bool
+is_token_parameter_code code = is_from_to output_code errhelp_code code
+
+abbrev pub quantity : ℕ → Option ℕ → Quantity
+quantity code index = record { code = code; index = index }
+
+abbrev pub the_primitive : Token → ℕ → List Taken → Want
+the_primitive t code taken =
+    if is_looked_at code then shown_want (quantity code None) taken
+    else if code == toks_code then toks_want taken
+    else if is_token_parameter_code code then only (Act (act.PutParameter code)) taken
+    else only (Act (act.CantUse t)) taken
+
+abbrev pub the_register : Token → RegKind → ℕ → List Taken → Want
+the_register t Count place taken = shown_want (quantity count_code (Some place)) taken
+the_register t Dimen place taken = shown_want (quantity dimen_code (Some place)) taken
+the_register t Skip place taken = shown_want (quantity skip_code (Some place)) taken
+the_register t Muskip place taken = shown_want (quantity muskip_code (Some place)) taken
+the_register t Box place taken = only (Act (act.CantUse t)) taken
+the_register t Toks place taken = only (Act (act.PutRegister (number.Int (pos place)))) taken
+
+abbrev pub the_value : Token → Meaning → List Taken → Want
+the_value t meaning.Undefined taken = only (Act (act.CantUse t)) taken
+the_value t (meaning.Primitive code) taken = the_primitive t code taken
+the_value t (meaning.Macro m) taken = only (Act (act.CantUse t)) taken
+the_value t (meaning.Char cat byte) taken = only (Act (act.CantUse t)) taken
+the_value t (meaning.CharDef byte) taken = only (Act (act.Digits Decimal (number.Int (pos byte)))) taken
+the_value t (meaning.MathCharDef n) taken = only (Act (act.Digits Decimal (number.Int (pos n)))) taken
+the_value t (meaning.Register kind place) taken = the_register t kind place taken
+the_value t (meaning.Font font) taken = only (Act (act.CantUse t)) taken
+
+abbrev pub the_want : List Taken → Want
+the_want [] = Expanded
+the_want (x ∷ rest) = the_value (token_of x) (meaning_of x) rest
 
 -- ---- conditions
 
--- a text is passed over until \else or \fi of its own level, or \fi alone (tex.web 494)
+-- a text is passed over until \else or \fi of its own level, or the \or that is sought (tex.web 494)
 abbrev pub pass_over_by : Option Stopping → Want
 pass_over_by None = Raw
 pass_over_by (Some stop) = Gives (told.Word stop.word) None
 
-abbrev pub pass_over_want : List Taken → Want
-pass_over_want taken = pass_over_by (stop_of 0 (map meaning_of taken))
+abbrev pub pass_over_want : ℕ → List Taken → Want
+pass_over_want sought taken = pass_over_by (stop_of sought (map meaning_of taken))
 
 abbrev pub word_told : Told → ℕ
 word_told told.Done = 0
@@ -191,6 +252,7 @@ word_told (told.Word word) = word
 word_told (told.Level level) = 0
 word_told told.GoOn = 0
 word_told (told.Text text) = 0
+word_told (told.Holds b) = 0
 
 abbrev pub level_told : Told → ℕ
 level_told told.Done = 0
@@ -199,6 +261,7 @@ level_told (told.Word word) = 0
 level_told (told.Level level) = level
 level_told told.GoOn = 0
 level_told (told.Text text) = 0
+level_told (told.Holds b) = 0
 
 abbrev pub goes_on : Told → Bool
 goes_on told.Done = false
@@ -207,10 +270,20 @@ goes_on (told.Word word) = false
 goes_on (told.Level level) = false
 goes_on told.GoOn = true
 goes_on (told.Text text) = false
+goes_on (told.Holds b) = false
+
+abbrev pub holds_told : Told → Bool
+holds_told told.Done = false
+holds_told (told.Number n) = false
+holds_told (told.Word word) = false
+holds_told (told.Level level) = false
+holds_told told.GoOn = false
+holds_told (told.Text text) = false
+holds_told (told.Holds b) = b
 
 -- the branch in front of \else is passed over, up to the condition's own \else or \fi
 abbrev pub false_want : ℕ → List Taken → Want
-false_want level [] = Inner task.PassOver
+false_want level [] = Inner (task.PassOver 0)
 false_want level (x ∷ []) = Act (act.Leave (word_told (told_of x)) level)
 false_want level (x ∷ y ∷ rest) = if goes_on (told_of y) then false_want level rest else done
 
@@ -254,14 +327,169 @@ abbrev pub first_number_want : ℕ → List Taken → Want
 first_number_want level [] = Inner task.WholeNumber
 first_number_want level (x ∷ rest) = relation_want level (number_told (told_of x)) rest
 
--- \ifnum is the third of the conditions
-abbrev pub if_number_want : List Taken → Want
-if_number_want [] = Act (act.Open (pos 3))
-if_number_want (x ∷ rest) = first_number_want (level_told (told_of x)) rest
+-- \ifodd: a number that two doesn't divide (tex.web 504)
+abbrev pub is_odd : ℤ → Bool
+is_odd n = unsigned_abs n % 2 == 1
+
+abbrev pub odd_want : ℕ → List Taken → Want
+odd_want level [] = Inner task.WholeNumber
+odd_want level (x ∷ rest) = decided (is_odd (first_number (number_told (told_of x)))) level rest
+
+-- something is asked
+abbrev pub asked_want : Deed → ℕ → List Taken → Want
+asked_want question level [] = Act question
+asked_want question level (x ∷ rest) = decided (holds_told (told_of x)) level rest
+
+-- \if and \ifcat: two tokens that aren't expanded are compared as characters. An active character that isn't to be
+-- expanded is itself, with category 13; whether one is, where it means \relax, shows its meaning in the environment. All
+-- that is no character is alike (tex.web 506)
+abbrev pub is_relax : Meaning → Bool
+is_relax meaning.Undefined = false
+is_relax (meaning.Primitive code) = code == relax_code
+is_relax (meaning.Macro m) = false
+is_relax (meaning.Char cat byte) = false
+is_relax (meaning.CharDef byte) = false
+is_relax (meaning.MathCharDef n) = false
+is_relax (meaning.Register kind n) = false
+is_relax (meaning.Font font) = false
+
+abbrev pub is_active : Token → Bool
+is_active (token.Char cat byte) = false
+is_active (token.Active byte) = true
+is_active (token.Name id) = false
+is_active (token.Arg n) = false
+is_active (token.Frozen n) = false
+
+abbrev pub may_be_marked : Token → Meaning → Bool
+may_be_marked t m = is_active t && is_relax m
+
+abbrev pub glyph : ℕ → ℕ → Glyph
+glyph cat byte = record { cat = cat; byte = byte }
+
+abbrev pub glyph_of : Meaning → Option Glyph
+glyph_of meaning.Undefined = None
+glyph_of (meaning.Primitive code) = None
+glyph_of (meaning.Macro m) = None
+glyph_of (meaning.Char cat byte) = Some (glyph cat byte)
+glyph_of (meaning.CharDef byte) = None
+glyph_of (meaning.MathCharDef n) = None
+glyph_of (meaning.Register kind n) = None
+glyph_of (meaning.Font font) = None
+
+abbrev pub glyph_of_active : Token → Option Glyph
+glyph_of_active (token.Char cat byte) = None
+glyph_of_active (token.Active byte) = Some (glyph 13 byte)
+glyph_of_active (token.Name id) = None
+glyph_of_active (token.Arg n) = None
+glyph_of_active (token.Frozen n) = None
+
+abbrev pub glyph_if : Bool → Token → Option Glyph
+glyph_if marked t = if marked then glyph_of_active t else None
+
+abbrev pub same_part : Part → Glyph → Glyph → Bool
+same_part part.Code a b = a.byte == b.byte
+same_part part.Category a b = a.cat == b.cat
+
+abbrev pub alike : Part → Option Glyph → Option Glyph → Bool
+alike p None None = true
+alike p None (Some b) = false
+alike p (Some a) None = false
+alike p (Some a) (Some b) = same_part p a b
+
+abbrev pub second_asked : Part → ℕ → Option Glyph → Token → List Taken → Want
+second_asked p level a t [] = Act (act.AskMarked t)
+second_asked p level a t (x ∷ rest) = decided (alike p a (glyph_if (holds_told (told_of x)) t)) level rest
+
+abbrev pub second_by : Part → ℕ → Option Glyph → Token → Meaning → List Taken → Want
+second_by p level a t m rest =
+    if may_be_marked t m then second_asked p level a t rest else decided (alike p a (glyph_of m)) level rest
+
+abbrev pub second_want_of : Part → ℕ → Option Glyph → List Taken → Want
+second_want_of p level a [] = Expanded
+second_want_of p level a (x ∷ rest) = second_by p level a (token_of x) (meaning_of x) rest
+
+abbrev pub first_asked : Part → ℕ → Token → List Taken → Want
+first_asked p level t [] = Act (act.AskMarked t)
+first_asked p level t (x ∷ rest) = second_want_of p level (glyph_if (holds_told (told_of x)) t) rest
+
+abbrev pub first_by : Part → ℕ → Token → Meaning → List Taken → Want
+first_by p level t m rest = if may_be_marked t m then first_asked p level t rest else second_want_of p level (glyph_of m) rest
+
+abbrev pub alike_want : Part → ℕ → List Taken → Want
+alike_want p level [] = Expanded
+alike_want p level (x ∷ rest) = first_by p level (token_of x) (meaning_of x) rest
+
+-- \ifcase: so many cases are passed over, each up to its \or, and the next one is read. A negative number is that of no
+-- case (tex.web 509)
+abbrev pub cases_before : ℤ → Option ℕ
+cases_before (pos n) = Some n
+cases_before (negsuc n) = None
+
+abbrev pub is_reached : Option ℕ → Bool
+is_reached None = false
+is_reached (Some n) = n == 0
+
+abbrev pub one_less : Option ℕ → Option ℕ
+one_less None = None
+one_less (Some n) = Some (n - 1)
+
+abbrev pub cases_by : (Option ℕ → Want) → Want → ℕ → Option ℕ → Told → List Taken → Want
+cases_by further again level left tells rest =
+    if goes_on tells then again
+    else if word_told tells == 2 then (if is_reached (one_less left) then only (Act (act.Choose level)) rest else further (one_less left))
+    else done
+
+abbrev pub cases_want : ℕ → Option ℕ → List Taken → Want
+cases_want level left [] = Inner (task.PassOver 1)
+cases_want level left (x ∷ []) = Act (act.Leave (word_told (told_of x)) level)
+cases_want level left (x ∷ y ∷ rest) = cases_by (λ fewer. cases_want level fewer rest) (cases_want level left rest) level left (told_of y) rest
+
+abbrev pub cases_left_want : Told → ℕ → Option ℕ → List Taken → Want
+cases_left_want word level left [] = Act (act.Leave (word_told word) level)
+cases_left_want word level left (y ∷ rest) = cases_by (λ fewer. cases_want level fewer rest) (cases_want level left rest) level left (told_of y) rest
+
+abbrev pub case_of : ℕ → Option ℕ → List Taken → Want
+case_of level left taken = if is_reached left then only (Act (act.Choose level)) taken else cases_want level left taken
+
+abbrev pub case_want : ℕ → List Taken → Want
+case_want level [] = Inner task.WholeNumber
+case_want level (x ∷ rest) = case_of level (cases_before (first_number (number_told (told_of x)))) rest
+
+-- the places of the conditions among all, counted from 1 (tex.web 487; the e-TeX manual, section 3.5)
+abbrev pub place_of_mode : ModeTest → ℕ
+place_of_mode mode.Vertical = 6
+place_of_mode mode.Horizontal = 7
+place_of_mode mode.Math = 8
+place_of_mode mode.Inner = 9
+
+abbrev pub place_of_test : Test → ℕ
+place_of_test (test.Alike part.Code) = 1
+place_of_test (test.Alike part.Category) = 2
+place_of_test test.Number = 3
+place_of_test test.Odd = 5
+place_of_test (test.Mode m) = place_of_mode m
+place_of_test test.SameMeaning = 13
+place_of_test (test.Always true) = 15
+place_of_test (test.Always false) = 16
+place_of_test test.Case = 17
+
+-- a condition that was opened is decided (tex.web 501)
+abbrev pub test_want : Test → ℕ → List Taken → Want
+test_want (test.Alike p) level taken = alike_want p level taken
+test_want test.Number level taken = first_number_want level taken
+test_want test.Odd level taken = odd_want level taken
+test_want (test.Mode m) level taken = asked_want (act.AskMode m) level taken
+test_want test.SameMeaning level taken = asked_want act.AskSame level taken
+test_want (test.Always b) level taken = decided b level taken
+test_want test.Case level taken = case_want level taken
+
+abbrev pub if_want : Test → List Taken → Want
+if_want asks [] = Act (act.Open (pos (place_of_test asks)))
+if_want asks (x ∷ rest) = test_want asks (level_told (told_of x)) rest
 
 -- behind \else or \or of a branch that was read, all is passed over up to \fi (tex.web 510)
 abbrev pub to_fi_want : List Taken → Want
-to_fi_want [] = Inner task.PassOver
+to_fi_want [] = Inner (task.PassOver 0)
 to_fi_want (x ∷ rest) = if word_told (told_of x) == 0 then only (Act act.Close) rest else to_fi_want rest
 
 abbrev pub branch_end_want : Token → BranchWord → List Taken → Want
@@ -334,6 +562,7 @@ text_told (told.Word word) = []
 text_told (told.Level level) = []
 text_told told.GoOn = []
 text_told (told.Text text) = text
+text_told (told.Holds b) = []
 
 -- \input: a name, and its file. Where the name of a file is being read, \relax is inserted in front of it, which ends
 -- that name (tex.web 378)
@@ -389,10 +618,12 @@ wants c (task.QuantityValue q) taken = quantity_by q q.index taken
 wants c (task.Undefined t) taken = only (Act (act.PassUndefined t)) taken
 wants c (task.Call name called) taken = call_want name called taken
 wants c task.ExpandAfter taken = expand_after_want taken
-wants c task.NumberText taken = number_text_want taken
-wants c task.IfNumber taken = if_number_want taken
-wants c task.PassOver taken = pass_over_want taken
+wants c task.The taken = the_want taken
+wants c (task.NumberText numerals) taken = number_text_want numerals taken
+wants c (task.If asks) taken = if_want asks taken
+wants c (task.PassOver sought) taken = pass_over_want sought taken
 wants c (task.BranchEnd t word) taken = branch_end_want t word taken
 wants c task.NameText taken = name_from [] taken
 wants c (task.Input t) taken = input_by t c.naming taken
 wants c task.FileName taken = file_want taken
+wants c (task.Simple simple) taken = only (Act (act.Simple simple)) taken

@@ -9,11 +9,14 @@ ghost use Rattle.tokens.specs.Names.{interned};
 ghost use Rattle.save_groups.specs.Assignment.{assigned};
 ghost use Rattle.save_groups.specs.Standing.{copies_of};
 ghost use Rattle.gullet.specs.State.{state_of};
-ghost use Rattle.gullet.specs.Acts.{perform, passing, told_done, with_token, with_some, digits, with_digits, with_text, with_name, with_meaning, is_undefined, make_name, other, IsDone};
+ghost use Rattle.gullet.specs.Acts.{perform, passing, told_done, with_token, with_some, with_bytes, digits, with_digits, with_text, with_name, with_meaning, is_undefined, make_name, other, IsDone};
 
+use crate::digits::digits;
 use crate::gullet::Gullet;
+use crate::raw::is_marked;
+use crate::simple::mode_holds;
 use crate::site::Site;
-use crate::task::{Act, Told};
+use crate::task::{Act, Numerals, Told};
 use asking::Library;
 use save_groups::{Env, Key, Scope, Value};
 use scan_nums::Number;
@@ -43,8 +46,11 @@ impl Gullet {
                 Ok(Told::Done)
             }
             Act::Look(quantity) => self.look(site, quantity),
-            Act::LookRegister { code, number } => self.look_register(site, code, number.first()),
-            Act::Digits(number) => self.push_digits(site, number),
+            Act::LookNumbered { code, number } => self.look_numbered(site, code, number.first()),
+            Act::PutRegister(number) => self.put_register(site, number.first()),
+            Act::PutParameter(code) => done(self.put_parameter(site, code)),
+            Act::CantUse(token) => self.cant_use(site, token),
+            Act::Digits { numerals, number } => self.push_digits(site, numerals, number),
             Act::Text { body, arguments } => done(self.push_text(
                 site,
                 body,
@@ -64,6 +70,10 @@ impl Gullet {
             Act::Meet { token, word } => self.meet(site, token, word),
             Act::MakeName(text) => self.make_name(site, text.bytes()),
             Act::ReadFile(name) => self.read_file(site, library, name.bytes()),
+            Act::AskMode(asked) => Ok(Told::Holds(mode_holds(asked, &site.facts))),
+            Act::AskMarked(token) => Ok(Told::Holds(is_marked(&site.env, token, true))),
+            Act::AskSame => self.compare_meanings(site),
+            Act::Simple(simple) => self.simply(site, simple),
         }
     }
 }
@@ -71,17 +81,18 @@ impl Gullet {
 /// The category of characters that are neither letters nor special.
 const OTHER: u8 = 12;
 
-/// A character of category 12.
+/// The category of spaces.
+const SPACE: u8 = 10;
+
+/// A character of a text that expansion makes.
 fn other(byte: &u8) -> Token
     ensures { result ≡ other byte.now }
 {
-    Token::Char {
-        cat: OTHER,
-        byte: *byte,
-    }
+    let cat = if *byte == b' ' { SPACE } else { OTHER };
+    Token::Char { cat, byte: *byte }
 }
 
-/// The characters of a text, all of category 12.
+/// The characters of a text that expansion makes: spaces, and all others of category 12.
 fn others(alloc: Global, text: &[u8]) -> Result<Vec<Token>, AllocError>
     ensures { IfOk result (λ tokens. tokens.items ≡ map other text.now) }
 {
@@ -99,7 +110,7 @@ fn list_from(alloc: Global, tokens: &[Token]) -> Result<TokenList, AllocError>
 }
 
 /// What tells nothing but that it was done.
-fn done(pushed: Result<(), AllocError>) -> Result<Told, Stop>
+pub fn done(pushed: Result<(), AllocError>) -> Result<Told, Stop>
     ensures { IsDone pushed result }
 {
     match pushed {
@@ -158,27 +169,21 @@ impl Gullet {
         self.pending.push_macro(body, arguments)
     }
 
-    /// The digits of a number, with a sign where it is below 0. No other quantity has any.
-    fn digits_of(&self, number: Number) -> Result<TokenList, AllocError>
-        ensures { IfOk result (λ list. list ≡ map other (digits number)) }
+    /// Puts a text in front, as new tokens.
+    pub(crate) fn push_bytes(&mut self, site: &Site, text: &[u8]) -> Result<(), AllocError>
+        ensures ok { OnOk result (state_of self.new site.now ≡ with_bytes text.now (state_of self.old site.now)) }
     {
-        let Number::Int(n) = number else {
-            return Ok(TokenList::empty());
-        };
-        let text = format!(in self.alloc; "{n}")?;
-        let tokens = others(self.alloc, text.as_bytes())?;
-        list_from(self.alloc, &tokens)
+        let tokens = others(self.alloc, text)?;
+        let list = list_from(self.alloc, &tokens)?;
+        self.pending.push_list(list)
     }
 
     /// Puts the digits of a number in front.
-    fn push_digits(&mut self, site: &Site, number: Number) -> Result<Told, Stop>
-        ensures does { Does result (state_of self.new site.now) (told_done (with_digits number (state_of self.old site.now))) }
+    fn push_digits(&mut self, site: &Site, numerals: Numerals, number: Number) -> Result<Told, Stop>
+        ensures does { Does result (state_of self.new site.now) (told_done (with_digits numerals number (state_of self.old site.now))) }
     {
-        match self.digits_of(number) {
-            Ok(list) => match self.pending.push_list(list) {
-                Ok(()) => Ok(Told::Done),
-                Err(_) => Err(Stop::OutOfMemory),
-            },
+        match digits(self.alloc, numerals, number) {
+            Ok(text) => done(self.push_bytes(site, &text)),
             Err(_) => Err(Stop::OutOfMemory),
         }
     }

@@ -1,22 +1,19 @@
 //! A phrase begins: what it wants first.
 #![tactic(auto, using(asking::specs::Asked::asking), unfolding(crate::specs::Wants::wants, crate::specs::Wants::last_token))]
 
-ghost use Rattle.std.specs.Prelude.{◌≡◌, [], ◌∷◌, true, List, Option, IfOk};
+ghost use Rattle.std.specs.Prelude.{◌≡◌, [], ◌∷◌, true, pos, List, Option, IfOk};
 ghost use Rattle.gullet.specs.declared.context.Context.{Context};
 ghost use Rattle.gullet.specs.Progress.{rest_behind, is_plain, WhileOpen, Stands, Ready};
-ghost use Rattle.gullet.specs.Wants.{Taken, wants, quantity_by, input_by, call_want};
+ghost use Rattle.gullet.specs.Wants.{Taken, wants, quantity_by, takes_number, input_by, call_want, place_of_test};
 
 use crate::context::Context;
 use crate::progress::Progress;
-use crate::task::{Act, Arguments, Task, Want};
+use crate::task::{Act, Arguments, ModeTest, Part, Task, Test, Want};
 use conditionals::SkipScan;
 use macro_args::{ArgScan, Rules, takes_tokens};
 use scan_nums::{IntScan, Quantity};
 use std::alloc::{AllocError, Global};
 use tokens::{Macro, NameId, Token, codes};
-
-/// The number of `\ifnum` among the conditions.
-const IF_NUMBER: i8 = 3;
 
 /// A phrase begins, of which nothing was taken yet.
 pub fn begin(alloc: Global, context: Context, task: Task) -> Result<(Progress, Want), AllocError>
@@ -36,11 +33,19 @@ pub fn begin(alloc: Global, context: Context, task: Task) -> Result<(Progress, W
         Task::QuantityValue(quantity) => Ok(begin_quantity(quantity)),
         Task::Undefined(token) => Ok(only(Act::PassUndefined(token))),
         Task::ExpandAfter => Ok((Progress::ExpandFirst, Want::Raw)),
-        Task::NumberText => Ok((Progress::Digits, Want::Inner(Task::WholeNumber))),
-        Task::IfNumber => Ok((Progress::Opened, Want::Act(Act::Open(IF_NUMBER)))),
-        Task::PassOver => Ok((
+        Task::The => Ok((Progress::Value, Want::Expanded)),
+        Task::NumberText(numerals) => Ok((
+            Progress::Digits(numerals),
+            Want::Inner(Task::WholeNumber),
+        )),
+        Task::If(test) => Ok((
+            Progress::Opened(test),
+            Want::Act(Act::Open(place_of_test(test))),
+        )),
+        Task::PassOver(sought) => Ok((
             Progress::Passing {
-                scan: SkipScan::new(0),
+                sought,
+                scan: SkipScan::new(sought),
                 taken: 0,
             },
             Want::Raw,
@@ -57,6 +62,27 @@ pub fn begin(alloc: Global, context: Context, task: Task) -> Result<(Progress, W
         )),
         Task::Input(token) => Ok(begin_input(context.naming, token)),
         Task::FileName => Ok((Progress::FileStart, Want::Expanded)),
+        Task::Simple(simple) => Ok(only(Act::Simple(simple))),
+    }
+}
+
+/// The place of a condition among all of them, counted from 1.
+fn place_of_test(test: Test) -> i8
+    ensures { result ≡ pos (place_of_test test) }
+{
+    match test {
+        Test::Alike(Part::Code) => 1,
+        Test::Alike(Part::Category) => 2,
+        Test::Number => 3,
+        Test::Odd => 5,
+        Test::Mode(ModeTest::Vertical) => 6,
+        Test::Mode(ModeTest::Horizontal) => 7,
+        Test::Mode(ModeTest::Math) => 8,
+        Test::Mode(ModeTest::Inner) => 9,
+        Test::SameMeaning => 13,
+        Test::Always(true) => 15,
+        Test::Always(false) => 16,
+        Test::Case => 17,
     }
 }
 
@@ -68,12 +94,20 @@ fn only(act: Act) -> (Progress, Want)
     (Progress::Finishing { back: None }, Want::Act(act))
 }
 
+/// Whether behind the name of a quantity stands the number of a register, or a character.
+fn takes_number(code: u16) -> bool
+    ensures { result ≡ takes_number code }
+{
+    (codes::COUNT <= code && code <= codes::MUSKIP)
+        || (codes::CATCODE <= code && code <= codes::DELCODE)
+}
+
 fn begin_quantity(quantity: Quantity) -> (Progress, Want)
     ensures want { result.1 ≡ quantity_by quantity quantity.index [] }
     ensures stands { WhileOpen result.1 ((context : Context) → Stands result.0 context (Task.QuantityValue quantity) []) }
     ensures ready { Ready result.1 result.0 }
 {
-    if quantity.index.is_none() && codes::COUNT <= quantity.code && quantity.code <= codes::MUSKIP {
+    if quantity.index.is_none() && takes_number(quantity.code) {
         (
             Progress::RegisterNumber {
                 code: quantity.code,

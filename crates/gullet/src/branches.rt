@@ -43,22 +43,25 @@ impl Gullet {
 }
 
 impl Gullet {
-    /// A text was passed over to this word, 0 being `\fi`. The answer is whether there is more to pass over before the
-    /// condition that is so many deep goes on or ends.
+    /// A text was passed over to this word, 0 being `\fi` and 2 `\or`. The answer is whether there is more to pass over
+    /// before the condition that is so many deep goes on or ends, or that its own `\or` was met.
     pub(crate) fn leave(&mut self, site: &Site, word: u8, level: u32) -> Result<Told, Stop>
         ensures does { Does result (state_of self.new site.now) (leave word level (state_of self.old site.now)) }
     {
         let is_inside = level < self.conditions.level();
         if word == 0 {
             self.close(site);
-        } else if !is_inside {
-            self.choose_last(site);
         }
         if is_inside {
-            Ok(Told::GoOn)
-        } else {
-            Ok(Told::Done)
+            return Ok(Told::GoOn);
         }
+        if word == 2 {
+            return Ok(Told::Word(2));
+        }
+        if word != 0 {
+            self.choose_last(site);
+        }
+        Ok(Told::Done)
     }
 
     /// The branch behind `\else` is read of the innermost condition.

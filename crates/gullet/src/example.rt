@@ -1,7 +1,7 @@
 //! Worked expansions, which the definitions give without any code.
 ghost use Rattle.gullet.specs.Example.{WorkedExpansions};
 
-/// Six phrases, from a number to a macro's call, with what they leave to be read.
+/// Phrases, from a number to a macro's call, with what they leave to be read.
 pub fn worked_expansions()
     ensures worked { WorkedExpansions }
 {}

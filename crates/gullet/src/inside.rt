@@ -15,16 +15,18 @@ fn is_counted(task: &Task) -> bool
     ensures { result ≡ is_counted task.now }
 {
     match task {
-        Task::WholeNumber | Task::IfNumber | Task::NameText => true,
+        Task::WholeNumber | Task::If(_) | Task::NameText => true,
         Task::QuantityValue(_)
         | Task::Undefined(_)
         | Task::Call { .. }
         | Task::ExpandAfter
-        | Task::NumberText
-        | Task::PassOver
+        | Task::The
+        | Task::NumberText(_)
+        | Task::PassOver(_)
         | Task::BranchEnd { .. }
         | Task::Input(_)
-        | Task::FileName => false,
+        | Task::FileName
+        | Task::Simple(_) => false,
     }
 }
 
@@ -39,12 +41,14 @@ fn is_file_name(task: &Task) -> bool
         | Task::Undefined(_)
         | Task::Call { .. }
         | Task::ExpandAfter
-        | Task::NumberText
-        | Task::IfNumber
-        | Task::PassOver
+        | Task::The
+        | Task::NumberText(_)
+        | Task::If(_)
+        | Task::PassOver(_)
         | Task::BranchEnd { .. }
         | Task::NameText
-        | Task::Input(_) => false,
+        | Task::Input(_)
+        | Task::Simple(_) => false,
     }
 }
 
@@ -53,17 +57,19 @@ fn is_closed(task: &Task) -> bool
     ensures { result ≡ is_closed task.now }
 {
     match task {
-        Task::Call { .. } | Task::PassOver => true,
+        Task::Call { .. } | Task::PassOver(_) => true,
         Task::WholeNumber
         | Task::QuantityValue(_)
         | Task::Undefined(_)
         | Task::ExpandAfter
-        | Task::NumberText
-        | Task::IfNumber
+        | Task::The
+        | Task::NumberText(_)
+        | Task::If(_)
         | Task::BranchEnd { .. }
         | Task::NameText
         | Task::Input(_)
-        | Task::FileName => false,
+        | Task::FileName
+        | Task::Simple(_) => false,
     }
 }
 

@@ -4,23 +4,78 @@
 ghost use Rattle.std.specs.Prelude.{◌≡◌, ◌||◌, is_some, IfOk};
 ghost use Rattle.save_groups.specs.Standing.{copies_of};
 ghost use Rattle.scan_nums.specs.Starts.{is_asked, is_expression};
-ghost use Rattle.gullet.specs.Meanings.{is_carried_out, is_expandable_code, is_looked_at, is_missing, key_of, known, taken_meaning, expansion, expansion_of_code, is_outer, HasFixed, KnownBy};
+ghost use Rattle.gullet.specs.Meanings.{test_of, simple_of, as_task, is_carried_out, is_expandable_code, is_looked_at, is_missing, key_of, known, taken_meaning, expansion, expansion_of_code, is_outer, HasFixed, KnownBy};
 
-use crate::task::{BranchWord, Task};
+use crate::task::{BranchWord, ModeTest, Numerals, Part, Simple, Task, Test};
 use save_groups::{Env, Key};
 use std::alloc::AllocError;
 use tokens::{Meaning, Token, codes};
+
+/// The condition of this name, if it is one that is decided.
+fn test_of(code: u16) -> Option<Test>
+    ensures { result ≡ test_of code }
+{
+    if code == codes::IF {
+        Some(Test::Alike(Part::Code))
+    } else if code == codes::IFCAT {
+        Some(Test::Alike(Part::Category))
+    } else if code == codes::IFNUM {
+        Some(Test::Number)
+    } else if code == codes::IFODD {
+        Some(Test::Odd)
+    } else if code == codes::IFVMODE {
+        Some(Test::Mode(ModeTest::Vertical))
+    } else if code == codes::IFHMODE {
+        Some(Test::Mode(ModeTest::Horizontal))
+    } else if code == codes::IFMMODE {
+        Some(Test::Mode(ModeTest::Math))
+    } else if code == codes::IFINNER {
+        Some(Test::Mode(ModeTest::Inner))
+    } else if code == codes::IFX {
+        Some(Test::SameMeaning)
+    } else if code == codes::IFTRUE {
+        Some(Test::Always(true))
+    } else if code == codes::IFFALSE {
+        Some(Test::Always(false))
+    } else if code == codes::IFCASE {
+        Some(Test::Case)
+    } else {
+        None
+    }
+}
+
+/// What is done of a name of which one thing is done.
+fn simple_of(code: u16) -> Option<Simple>
+    ensures { result ≡ simple_of code }
+{
+    if code == codes::ENDINPUT {
+        Some(Simple::EndInput)
+    } else if code == codes::NOEXPAND {
+        Some(Simple::NoExpand)
+    } else if code == codes::STRING {
+        Some(Simple::TokenText)
+    } else if code == codes::MEANING {
+        Some(Simple::MeaningText)
+    } else if code == codes::JOBNAME {
+        Some(Simple::JobName)
+    } else {
+        None
+    }
+}
 
 /// Whether the expansion of a name is carried out.
 fn is_carried_out(code: u16) -> bool
     ensures { result ≡ is_carried_out code }
 {
     code == codes::INPUT
+        || code == codes::THE
         || code == codes::EXPANDAFTER
         || code == codes::CSNAME
         || code == codes::NUMBER
-        || code == codes::IFNUM
+        || code == codes::ROMANNUMERAL
         || (codes::ELSE <= code && code <= codes::FI)
+        || test_of(code).is_some()
+        || simple_of(code).is_some()
 }
 
 /// Whether a name is one that is expanded.
@@ -31,11 +86,13 @@ fn is_expandable_code(code: u16) -> bool
 }
 
 /// Whether a quantity is looked at.
-fn is_looked_at(code: u16) -> bool
+pub fn is_looked_at(code: u16) -> bool
     ensures { result ≡ is_looked_at code }
 {
     (codes::PRETOLERANCE <= code && code <= codes::ERRORCONTEXTLINES)
         || (codes::COUNT <= code && code <= codes::MUSKIP)
+        || (codes::CATCODE <= code && code <= codes::DELCODE)
+        || code == codes::INPUTLINENO
 }
 
 /// Whether a name asks for a number, a dimension or a glue, or for an expression.
@@ -71,25 +128,31 @@ fn key_of(token: Token) -> Option<Key>
 
 /// The meaning of a token that no environment holds: of a character, of one that isn't to be expanded, and of a name of
 /// the tables that is still to come.
+#[tactic(auto, using(asking::specs::Asked::asking, crate::proofs::Marks::marks), unfolding(crate::specs::Meanings::taken_meaning))]
 pub fn fixed_meaning(env: &Env, token: Token, noexpand: bool) -> Option<Meaning>
     ensures { HasFixed (copies_of env.now) token noexpand result }
 {
-    if noexpand {
-        return Some(Meaning::Primitive(codes::RELAX));
-    }
     match token {
         Token::Char { cat, byte } => Some(Meaning::Char { cat, byte }),
         Token::Frozen(_) => Some(Meaning::Primitive(codes::RELAX)),
-        Token::Arg(_) => Some(Meaning::Undefined),
-        Token::Active(byte) => fixed_by(env.meaning(Key::Active(byte))),
-        Token::Name(id) => fixed_by(env.meaning(Key::Name(id))),
+        Token::Arg(_) => Some(if noexpand {
+            Meaning::Primitive(codes::RELAX)
+        } else {
+            Meaning::Undefined
+        }),
+        Token::Active(byte) => fixed_by(noexpand, token, env.meaning(Key::Active(byte))),
+        Token::Name(id) => fixed_by(noexpand, token, env.meaning(Key::Name(id))),
     }
 }
 
-/// Undefined where the meaning is a name of the tables that is still to come.
-fn fixed_by(meaning: &Meaning) -> Option<Meaning>
-    ensures { KnownBy meaning.now result }
+/// `\relax` where the token isn't to be expanded though it would be; else undefined where the meaning is a name of the
+/// tables that is still to come.
+fn fixed_by(noexpand: bool, token: Token, meaning: &Meaning) -> Option<Meaning>
+    ensures { KnownBy noexpand token meaning.now result }
 {
+    if noexpand && is_expanded_meaning(token, meaning) {
+        return Some(Meaning::Primitive(codes::RELAX));
+    }
     match meaning {
         Meaning::Primitive(code) => {
             if is_missing(*code) {
@@ -133,14 +196,16 @@ fn expansion_of_code(token: Token, code: u16) -> Option<Task>
 {
     if code == codes::INPUT {
         Some(Task::Input(token))
+    } else if code == codes::THE {
+        Some(Task::The)
     } else if code == codes::EXPANDAFTER {
         Some(Task::ExpandAfter)
     } else if code == codes::CSNAME {
         Some(Task::NameText)
     } else if code == codes::NUMBER {
-        Some(Task::NumberText)
-    } else if code == codes::IFNUM {
-        Some(Task::IfNumber)
+        Some(Task::NumberText(Numerals::Decimal))
+    } else if code == codes::ROMANNUMERAL {
+        Some(Task::NumberText(Numerals::Roman))
     } else if code == codes::ELSE {
         Some(Task::BranchEnd {
             token,
@@ -157,7 +222,17 @@ fn expansion_of_code(token: Token, code: u16) -> Option<Task>
             word: BranchWord::Fi,
         })
     } else {
-        None
+        as_task(test_of(code), simple_of(code))
+    }
+}
+
+fn as_task(test: Option<Test>, simple: Option<Simple>) -> Option<Task>
+    ensures { result ≡ as_task test simple }
+{
+    match (test, simple) {
+        (Some(test), _) => Some(Task::If(test)),
+        (None, Some(simple)) => Some(Task::Simple(simple)),
+        (None, None) => None,
     }
 }
 
@@ -179,6 +254,7 @@ pub fn is_outer(meaning: &Meaning) -> bool
 
 /// The phrase to which the expansion of a token leads that was taken, if it is expanded. One that isn't to be expanded
 /// leads to none.
+#[tactic(auto, using(asking::specs::Asked::asking, crate::proofs::Marks::marks), unfolding(crate::specs::Meanings::taken_meaning))]
 pub fn expansion_of(env: &Env, token: Token, noexpand: bool) -> Result<Option<Task>, AllocError>
     ensures { IfOk result (λ task. task ≡ expansion token (taken_meaning (copies_of env.now) token noexpand)) }
 {
@@ -205,6 +281,7 @@ fn known_expansion(token: Token, meaning: &Meaning) -> Result<Option<Task>, Allo
 
 /// Whether a token that was taken is a macro that may not stand where no outer one may. One that isn't to be expanded is
 /// none.
+#[tactic(auto, using(asking::specs::Asked::asking, crate::proofs::Marks::marks), unfolding(crate::specs::Meanings::taken_meaning))]
 pub fn is_outer_token(env: &Env, token: Token, noexpand: bool) -> bool
     ensures { result ≡ is_outer (taken_meaning (copies_of env.now) token noexpand) }
 {
@@ -243,6 +320,7 @@ pub fn taken_meaning<'a>(
 }
 
 /// Whether a token that was taken is expanded.
+#[tactic(auto, using(asking::specs::Asked::asking, crate::proofs::Marks::marks), unfolding(crate::specs::Meanings::taken_meaning))]
 pub fn is_expanded(env: &Env, token: Token, noexpand: bool) -> bool
     ensures { result ≡ is_some (expansion token (taken_meaning (copies_of env.now) token noexpand)) }
 {
@@ -276,5 +354,5 @@ fn is_expanded_meaning(token: Token, meaning: &Meaning) -> bool
 fn is_expanded_code(token: Token, code: u16) -> bool
     ensures { result ≡ is_some (expansion_of_code token code) }
 {
-    is_carried_out(code)
+    expansion_of_code(token, code).is_some()
 }

@@ -9,7 +9,8 @@ ghost use Rattle.scan_nums.specs.declared.verdict.Phrase.{Phrase};
 ghost use Rattle.save_groups.specs.Standing.{copies_of};
 ghost use Rattle.gullet.specs.Expansion.{outcome, outermost};
 ghost use Rattle.gullet.specs.Meanings.{expansion, taken_meaning};
-ghost use Rattle.gullet.specs.Next.{is_end, raw_of, next_raw, next_expanded, take_number, seek_once, by_sight, by_expansion, expanded, as_taken};
+ghost use Rattle.gullet.specs.RawToken.{is_end, raw_of, next_raw};
+ghost use Rattle.gullet.specs.Next.{next_expanded, take_number, seek_once, by_sight, by_expansion, expanded, as_taken};
 ghost use Rattle.gullet.specs.State.{state_of};
 ghost use Rattle.gullet.specs.Wants.{number_told};
 
@@ -20,6 +21,7 @@ use crate::site::Site;
 use crate::task::{Task, Told};
 use asking::Library;
 use pending::Event;
+use save_groups::Env;
 use scan_nums::{Number, Phrase};
 use tokens::{Stop, Token};
 
@@ -151,14 +153,14 @@ impl Gullet {
         noexpand: bool,
     ) -> Result<Sought, Stop>
         ensures does { DoesBeside L.outside (L.seen library.old) (L.seen library.new) result (state_of self.new site.new)
-            (by_expansion L.outside (as_taken token noexpand) (expansion token (taken_meaning (copies_of site.old.env) token noexpand)) (state_of self.old site.old)) }
+            (by_expansion L.outside (as_taken (copies_of site.old.env) token noexpand) (expansion token (taken_meaning (copies_of site.old.env) token noexpand)) (state_of self.old site.old)) }
     {
         if !is_expanded(&site.env, token, noexpand) {
-            return Ok(Sought::Token(as_taken(token, noexpand)));
+            return Ok(Sought::Token(as_taken(&site.env, token, noexpand)));
         }
         match expansion_of(&site.env, token, noexpand) {
             Ok(Some(task)) => self.expand(site, library, task),
-            Ok(None) => Ok(Sought::Token(as_taken(token, noexpand))),
+            Ok(None) => Ok(Sought::Token(as_taken(&site.env, token, noexpand))),
             Err(_) => Err(Stop::OutOfMemory),
         }
     }
@@ -200,11 +202,16 @@ fn raw_of(event: Event) -> Option<(Token, bool)>
     }
 }
 
-/// A token that isn't to be expanded is `\relax` to whoever takes it.
-fn as_taken(token: Token, noexpand: bool) -> Token
-    ensures { result ≡ as_taken token noexpand }
+/// A token that isn't to be expanded is `\relax` to whoever takes it, where it would be expanded.
+#[tactic(auto, unfolding(crate::specs::Meanings::taken_meaning))]
+fn as_taken(env: &Env, token: Token, noexpand: bool) -> Token
+    ensures { result ≡ as_taken (copies_of env.now) token noexpand }
 {
-    if noexpand { Token::Frozen(0) } else { token }
+    if noexpand && is_expanded(env, token, false) {
+        Token::Frozen(0)
+    } else {
+        token
+    }
 }
 
 /// The phrase that reads a number of this kind.
@@ -225,6 +232,7 @@ fn number_told(told: Told) -> Number
 {
     match told {
         Told::Number(number) => number,
-        Told::Done | Told::Word(_) | Told::Level(_) | Told::GoOn | Told::Text(_) => Number::Int(0),
+        Told::Done | Told::Word(_) | Told::Level(_) | Told::GoOn | Told::Text(_) | Told::Holds(_) =>
+            Number::Int(0),
     }
 }

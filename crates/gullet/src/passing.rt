@@ -24,15 +24,23 @@ fn with_one_more(taken: u64) -> Result<u64, AllocError>
 
 /// The text takes a token, of which it looks at the meaning alone.
 pub fn take_token(
+    sought: u32,
     mut scan: SkipScan,
     taken: u64,
     meaning: &Meaning,
 ) -> Result<(Progress, Want), AllocError>
-    ensures { IfOk result (λ r. (token : Token) → TakesUp (Progress.Passing scan taken) (Tok token meaning.now) r.0 r.1) }
+    ensures { IfOk result (λ r. (token : Token) → TakesUp (Progress.Passing sought scan taken) (Tok token meaning.now) r.0 r.1) }
 {
     let more = with_one_more(taken)?;
     match scan.take(meaning) {
-        Skip::Go => Ok((Progress::Passing { scan, taken: more }, Want::Raw)),
+        Skip::Go => Ok((
+            Progress::Passing {
+                sought,
+                scan,
+                taken: more,
+            },
+            Want::Raw,
+        )),
         Skip::Stopped { word } => Ok((
             Progress::Telling,
             Want::Gives {

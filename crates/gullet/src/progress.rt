@@ -1,5 +1,6 @@
 //! How far a phrase was read.
 
+use crate::task::{Glyph, Numerals, Part, Test};
 use conditionals::SkipScan;
 use macro_args::ArgScan;
 use scan_nums::{IntScan, Number};
@@ -13,8 +14,9 @@ pub enum Progress {
         scan: IntScan,
         last: Option<Token>,
     },
-    /// A text that is passed over, and how many of its tokens were taken.
+    /// A text that is passed over, by the number of the `\or` that is sought, and how many of its tokens were taken.
     Passing {
+        sought: u32,
         scan: SkipScan,
         taken: u64,
     },
@@ -35,14 +37,61 @@ pub enum Progress {
     ExpandSecond {
         first: Token,
     },
-    /// `\number`, in front of the number.
-    Digits,
+    /// `\the`, in front of what it shows, and of the number of a token register.
+    Value,
+    ListNumber,
+    /// In front of the number that is put in front in digits.
+    Digits(Numerals),
     /// In front of the number of a register.
     RegisterNumber {
         code: u16,
     },
-    /// A condition: behind its opening, in front of the first number, the relation and the second number.
-    Opened,
+    /// A condition: behind its opening.
+    Opened(Test),
+    /// `\ifodd`, in front of its number.
+    OddNumber {
+        level: u32,
+    },
+    /// In front of the answer to what a condition asks.
+    Asked {
+        level: u32,
+    },
+    /// `\if` or `\ifcat`: in front of the first token, of what is said of an active character, and the same of the second
+    /// token.
+    FirstGlyph {
+        part: Part,
+        level: u32,
+    },
+    FirstActive {
+        part: Part,
+        level: u32,
+        active: Token,
+    },
+    SecondGlyph {
+        part: Part,
+        level: u32,
+        first: Option<Glyph>,
+    },
+    SecondActive {
+        part: Part,
+        level: u32,
+        first: Option<Glyph>,
+        active: Token,
+    },
+    /// `\ifcase`, in front of its number.
+    CaseNumber {
+        level: u32,
+    },
+    /// Cases are passed over, so many if the number is that of a case; one was left.
+    Cases {
+        level: u32,
+        left: Option<u32>,
+    },
+    CasesLeft {
+        level: u32,
+        left: Option<u32>,
+    },
+    /// `\ifnum`: in front of the first number, the relation and the second number.
     FirstNumber {
         level: u32,
     },

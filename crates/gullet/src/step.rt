@@ -2,16 +2,17 @@
 #![tactic(auto, using(asking::specs::Asked::asking))]
 
 ghost use Rattle.std.specs.Prelude.{◌≡◌, ◌==◌, [], ◌∷◌, List, Option, IfOk, if◌then◌else◌, true};
+ghost use Rattle.scan_nums.specs.Number.{first_number};
 ghost use Rattle.scan_nums.specs.Starts.{is_space};
 ghost use Rattle.gullet.specs.Progress.{rest, rest_behind, WhileOpen, Steps, is_plain};
-ghost use Rattle.gullet.specs.Wants.{Taken, done, only, number_told, level_told, word_told, goes_on, text_told, second_want, relation_of, holds, decided, false_want, to_fi_want, byte_of, name_by, name_from, letter_of, file_by, file_from, is_end_of_name};
+ghost use Rattle.gullet.specs.Wants.{Taken, done, only, number_told, level_told, word_told, goes_on, holds_told, is_odd, quantity, the_value, the_primitive, the_register, test_want, is_relax, may_be_marked, glyph_of, glyph_if, alike, first_by, second_by, cases_before, is_reached, one_less, case_of, cases_want, text_told, second_want, relation_of, holds, decided, false_want, to_fi_want, byte_of, name_by, name_from, letter_of, file_by, file_from, is_end_of_name};
 
-use crate::meanings::expansion;
+use crate::meanings::{expansion, is_looked_at};
 use crate::progress::Progress;
-use crate::task::{Act, Task, Told, Want};
-use scan_nums::Number;
+use crate::task::{Act, Glyph, Numerals, Part, Task, Test, Told, Want};
+use scan_nums::{Number, Quantity};
 use std::alloc::{AllocError, Global};
-use tokens::{Kind, Meaning, Text, Token, codes};
+use tokens::{Kind, Meaning, RegKind, Text, Token, codes};
 
 /// The number that is told, 0 where none is.
 pub fn number_told(told: &Told) -> Number
@@ -19,7 +20,8 @@ pub fn number_told(told: &Told) -> Number
 {
     match told {
         Told::Number(number) => *number,
-        Told::Done | Told::Word(_) | Told::Level(_) | Told::GoOn | Told::Text(_) => Number::Int(0),
+        Told::Done | Told::Word(_) | Told::Level(_) | Told::GoOn | Told::Text(_) | Told::Holds(_) =>
+            Number::Int(0),
     }
 }
 
@@ -29,7 +31,12 @@ fn level_told(told: &Told) -> u32
 {
     match told {
         Told::Level(level) => *level,
-        Told::Done | Told::Number(_) | Told::Word(_) | Told::GoOn | Told::Text(_) => 0,
+        Told::Done
+        | Told::Number(_)
+        | Told::Word(_)
+        | Told::GoOn
+        | Told::Text(_)
+        | Told::Holds(_) => 0,
     }
 }
 
@@ -39,7 +46,12 @@ fn word_told(told: &Told) -> u8
 {
     match told {
         Told::Word(word) => *word,
-        Told::Done | Told::Number(_) | Told::Level(_) | Told::GoOn | Told::Text(_) => 0,
+        Told::Done
+        | Told::Number(_)
+        | Told::Level(_)
+        | Told::GoOn
+        | Told::Text(_)
+        | Told::Holds(_) => 0,
     }
 }
 
@@ -49,7 +61,27 @@ fn goes_on(told: &Told) -> bool
 {
     match told {
         Told::GoOn => true,
-        Told::Done | Told::Number(_) | Told::Word(_) | Told::Level(_) | Told::Text(_) => false,
+        Told::Done
+        | Told::Number(_)
+        | Told::Word(_)
+        | Told::Level(_)
+        | Told::Text(_)
+        | Told::Holds(_) => false,
+    }
+}
+
+/// Whether what was asked is so.
+fn holds_told(told: &Told) -> bool
+    ensures { result ≡ holds_told told.now }
+{
+    match told {
+        Told::Holds(holds) => *holds,
+        Told::Done
+        | Told::Number(_)
+        | Told::Word(_)
+        | Told::Level(_)
+        | Told::GoOn
+        | Told::Text(_) => false,
     }
 }
 
@@ -59,9 +91,12 @@ fn text_told(alloc: Global, told: Told) -> Text
 {
     match told {
         Told::Text(text) => text,
-        Told::Done | Told::Number(_) | Told::Word(_) | Told::Level(_) | Told::GoOn => Text::new(
-            Vec::new(alloc),
-        ),
+        Told::Done
+        | Told::Number(_)
+        | Told::Word(_)
+        | Told::Level(_)
+        | Told::GoOn
+        | Told::Holds(_) => Text::new(Vec::new(alloc)),
     }
 }
 
@@ -114,20 +149,56 @@ pub fn step(
         Progress::Telling => Ok((Progress::Telling, Want::Gives { told, back: None })),
         Progress::ExpandFirst => Ok((Progress::ExpandSecond { first: token }, Want::Raw)),
         Progress::ExpandSecond { first } => expand_second(first, token, meaning),
-        Progress::Digits => Ok(last_act(Act::Digits(number_told(&told)))),
+        Progress::Value => Ok(value(token, meaning)),
+        Progress::ListNumber => Ok(last_act(Act::PutRegister(number_told(&told)))),
+        Progress::Digits(numerals) => Ok(last_act(Act::Digits {
+            numerals,
+            number: number_told(&told),
+        })),
         Progress::RegisterNumber { code } => Ok((
             Progress::Telling,
-            Want::Act(Act::LookRegister {
+            Want::Act(Act::LookNumbered {
                 code,
                 number: number_told(&told),
             }),
         )),
-        Progress::Opened => Ok((
-            Progress::FirstNumber {
-                level: level_told(&told),
+        Progress::Opened(test) => Ok(opened(test, level_told(&told))),
+        Progress::OddNumber { level } => Ok(decided(level, is_odd(number_told(&told).first()))),
+        Progress::Asked { level } => Ok(decided(level, holds_told(&told))),
+        Progress::FirstGlyph { part, level } => Ok(first_glyph(part, level, token, meaning)),
+        Progress::FirstActive {
+            part,
+            level,
+            active,
+        } => Ok((
+            Progress::SecondGlyph {
+                part,
+                level,
+                first: glyph_if(holds_told(&told), active),
             },
-            Want::Inner(Task::WholeNumber),
+            Want::Expanded,
         )),
+        Progress::SecondGlyph { part, level, first } => Ok(second_glyph(
+            part, level, first, token, meaning,
+        )),
+        Progress::SecondActive {
+            part,
+            level,
+            first,
+            active,
+        } => Ok(decided(
+            level,
+            alike(part, first, glyph_if(holds_told(&told), active)),
+        )),
+        Progress::CaseNumber { level } => Ok(case_number(level, number_told(&told))),
+        Progress::Cases { level, left } => Ok((
+            Progress::CasesLeft { level, left },
+            Want::Act(Act::Leave {
+                word: word_told(&told),
+                level,
+            }),
+        )),
+        Progress::CasesLeft { level, left } => Ok(case_passed(level, left, &told)),
         Progress::FirstNumber { level } => Ok((
             Progress::Relation {
                 level,
@@ -174,6 +245,340 @@ fn expand_second(
         Some(task) => Want::Inner(task),
     };
     Ok((Progress::Finishing { back: Some(first) }, want))
+}
+
+/// A quantity is looked at, and its digits are put in front.
+fn shown(code: u16, index: Option<u16>) -> (Progress, Want)
+    ensures progress { result.0 ≡ Progress.Digits Numerals.Decimal }
+    ensures want { result.1 ≡ Want.Inner (Task.QuantityValue (quantity code index)) }
+{
+    (
+        Progress::Digits(Numerals::Decimal),
+        Want::Inner(Task::QuantityValue(Quantity { code, index })),
+    )
+}
+
+/// The digits of a number are put in front.
+fn given(number: i32) -> (Progress, Want)
+    ensures progress { result.0 ≡ Progress.Finishing Option.None }
+    ensures want { result.1 ≡ Want.Act (Act.Digits Numerals.Decimal (Number.Int number)) }
+{
+    last_act(Act::Digits {
+        numerals: Numerals::Decimal,
+        number: Number::Int(number),
+    })
+}
+
+/// What `\the` shows where it stands in front of this token.
+fn value(token: Token, meaning: &Meaning) -> (Progress, Want)
+    ensures want { result.1 ≡ the_value token meaning.now [] }
+    ensures steps { WhileOpen result.1 ((x : Taken) (xs : List Taken) → the_value token meaning.now (x ∷ xs) ≡ rest_behind result.0 x xs) }
+    ensures plain { is_plain result.0 ≡ true }
+{
+    match meaning {
+        Meaning::Primitive(code) => value_of_primitive(token, *code),
+        Meaning::CharDef(byte) => given(i32::from(*byte)),
+        Meaning::MathCharDef(number) => given(i32::from(*number)),
+        Meaning::Register { kind, number } => value_of_register(token, *kind, *number),
+        Meaning::Undefined | Meaning::Macro(_) | Meaning::Char { .. } | Meaning::Font(_) =>
+            last_act(Act::CantUse(token)),
+    }
+}
+
+fn value_of_primitive(token: Token, code: u16) -> (Progress, Want)
+    ensures want { result.1 ≡ the_primitive token code [] }
+    ensures steps { WhileOpen result.1 ((x : Taken) (xs : List Taken) → the_primitive token code (x ∷ xs) ≡ rest_behind result.0 x xs) }
+    ensures plain { is_plain result.0 ≡ true }
+{
+    if is_looked_at(code) {
+        shown(code, None)
+    } else if code == codes::TOKS {
+        (Progress::ListNumber, Want::Inner(Task::WholeNumber))
+    } else if codes::OUTPUT <= code && code <= codes::ERRHELP {
+        last_act(Act::PutParameter(code))
+    } else {
+        last_act(Act::CantUse(token))
+    }
+}
+
+fn value_of_register(token: Token, kind: RegKind, place: u16) -> (Progress, Want)
+    ensures want { result.1 ≡ the_register token kind place [] }
+    ensures steps { WhileOpen result.1 ((x : Taken) (xs : List Taken) → the_register token kind place (x ∷ xs) ≡ rest_behind result.0 x xs) }
+    ensures plain { is_plain result.0 ≡ true }
+{
+    match kind {
+        RegKind::Count => shown(codes::COUNT, Some(place)),
+        RegKind::Dimen => shown(codes::DIMEN, Some(place)),
+        RegKind::Skip => shown(codes::SKIP, Some(place)),
+        RegKind::Muskip => shown(codes::MUSKIP, Some(place)),
+        RegKind::Box => last_act(Act::CantUse(token)),
+        RegKind::Toks => last_act(Act::PutRegister(Number::Int(i32::from(place)))),
+    }
+}
+
+/// A condition that was opened is decided.
+fn opened(test: Test, level: u32) -> (Progress, Want)
+    ensures want { result.1 ≡ test_want test level [] }
+    ensures steps { WhileOpen result.1 ((x : Taken) (xs : List Taken) → test_want test level (x ∷ xs) ≡ rest_behind result.0 x xs) }
+    ensures plain { is_plain result.0 ≡ true }
+{
+    match test {
+        Test::Alike(part) => (Progress::FirstGlyph { part, level }, Want::Expanded),
+        Test::Number => (
+            Progress::FirstNumber { level },
+            Want::Inner(Task::WholeNumber),
+        ),
+        Test::Odd => (
+            Progress::OddNumber { level },
+            Want::Inner(Task::WholeNumber),
+        ),
+        Test::Mode(mode) => (Progress::Asked { level }, Want::Act(Act::AskMode(mode))),
+        Test::SameMeaning => (Progress::Asked { level }, Want::Act(Act::AskSame)),
+        Test::Always(holds) => decided(level, holds),
+        Test::Case => (
+            Progress::CaseNumber { level },
+            Want::Inner(Task::WholeNumber),
+        ),
+    }
+}
+
+/// Whether a meaning is that of `\relax`.
+fn is_relax(meaning: &Meaning) -> bool
+    ensures { result ≡ is_relax meaning.now }
+{
+    match meaning {
+        Meaning::Primitive(code) => *code == codes::RELAX,
+        Meaning::Undefined
+        | Meaning::Macro(_)
+        | Meaning::Char { .. }
+        | Meaning::CharDef(_)
+        | Meaning::MathCharDef(_)
+        | Meaning::Register { .. }
+        | Meaning::Font(_) => false,
+    }
+}
+
+/// Whether a token may be an active character that isn't to be expanded.
+fn may_be_marked(token: Token, meaning: &Meaning) -> bool
+    ensures { result ≡ may_be_marked token meaning.now }
+{
+    match token {
+        Token::Active(_) => is_relax(meaning),
+        Token::Char { .. } | Token::Name(_) | Token::Arg(_) | Token::Frozen(_) => false,
+    }
+}
+
+/// The character that a token is to `\if`.
+fn glyph_of(meaning: &Meaning) -> Option<Glyph>
+    ensures { result ≡ glyph_of meaning.now }
+{
+    match meaning {
+        Meaning::Char { cat, byte } => Some(Glyph {
+            cat: *cat,
+            byte: *byte,
+        }),
+        Meaning::Undefined
+        | Meaning::Primitive(_)
+        | Meaning::Macro(_)
+        | Meaning::CharDef(_)
+        | Meaning::MathCharDef(_)
+        | Meaning::Register { .. }
+        | Meaning::Font(_) => None,
+    }
+}
+
+/// The category of active characters.
+const ACTIVE: u8 = 13;
+
+/// The character that an active one is, where it isn't to be expanded.
+fn glyph_if(is_marked: bool, token: Token) -> Option<Glyph>
+    ensures { result ≡ glyph_if is_marked token }
+{
+    if !is_marked {
+        return None;
+    }
+    match token {
+        Token::Active(byte) => Some(Glyph { cat: ACTIVE, byte }),
+        Token::Char { .. } | Token::Name(_) | Token::Arg(_) | Token::Frozen(_) => None,
+    }
+}
+
+/// Whether two characters are alike in a part. What is no character is like what is none.
+fn alike(part: Part, a: Option<Glyph>, b: Option<Glyph>) -> bool
+    ensures { result ≡ alike part a b }
+{
+    match (a, b) {
+        (None, None) => true,
+        (Some(a), Some(b)) => match part {
+            Part::Code => a.byte == b.byte,
+            Part::Category => a.cat == b.cat,
+        },
+        (None, Some(_)) | (Some(_), None) => false,
+    }
+}
+
+/// The first token of `\if` or `\ifcat`.
+fn first_glyph(part: Part, level: u32, token: Token, meaning: &Meaning) -> (Progress, Want)
+    ensures want { result.1 ≡ first_by part level token meaning.now [] }
+    ensures steps { WhileOpen result.1 ((x : Taken) (xs : List Taken) → first_by part level token meaning.now (x ∷ xs) ≡ rest_behind result.0 x xs) }
+    ensures plain { is_plain result.0 ≡ true }
+{
+    if may_be_marked(token, meaning) {
+        return (
+            Progress::FirstActive {
+                part,
+                level,
+                active: token,
+            },
+            Want::Act(Act::AskMarked(token)),
+        );
+    }
+    (
+        Progress::SecondGlyph {
+            part,
+            level,
+            first: glyph_of(meaning),
+        },
+        Want::Expanded,
+    )
+}
+
+/// The second token of `\if` or `\ifcat`.
+fn second_glyph(
+    part: Part,
+    level: u32,
+    first: Option<Glyph>,
+    token: Token,
+    meaning: &Meaning,
+) -> (Progress, Want)
+    ensures want { result.1 ≡ second_by part level first token meaning.now [] }
+    ensures steps { WhileOpen result.1 ((x : Taken) (xs : List Taken) → second_by part level first token meaning.now (x ∷ xs) ≡ rest_behind result.0 x xs) }
+    ensures plain { is_plain result.0 ≡ true }
+{
+    if may_be_marked(token, meaning) {
+        return (
+            Progress::SecondActive {
+                part,
+                level,
+                first,
+                active: token,
+            },
+            Want::Act(Act::AskMarked(token)),
+        );
+    }
+    decided(level, alike(part, first, glyph_of(meaning)))
+}
+
+/// How many cases are passed over; for a negative number there is no case behind which one is read.
+fn cases_before(number: Number) -> Option<u32>
+    ensures { result ≡ cases_before (first_number number) }
+{
+    match u32::try_from(number.first()) {
+        Ok(number) => Some(number),
+        Err(_) => None,
+    }
+}
+
+/// Whether the case is reached.
+fn is_reached(left: Option<u32>) -> bool
+    ensures { result ≡ is_reached left }
+{
+    match left {
+        None => false,
+        Some(left) => left == 0,
+    }
+}
+
+/// One case was passed over.
+fn one_less(left: Option<u32>) -> Option<u32>
+    ensures { result ≡ one_less left }
+{
+    match left {
+        None => None,
+        Some(left) => Some(left.saturating_sub(1)),
+    }
+}
+
+/// The case that is sought is read, or further cases are passed over.
+fn case_of(level: u32, left: Option<u32>) -> (Progress, Want)
+    ensures want { result.1 ≡ case_of level left [] }
+    ensures steps { WhileOpen result.1 ((x : Taken) (xs : List Taken) → case_of level left (x ∷ xs) ≡ rest_behind result.0 x xs) }
+    ensures plain { is_plain result.0 ≡ true }
+{
+    case_if(level, left, is_reached(left))
+}
+
+/// The same by whether the case is reached.
+#[tactic(auto, using(asking::specs::Asked::asking, crate::proofs::Cases::cases))]
+fn case_if(level: u32, left: Option<u32>, is_reached: bool) -> (Progress, Want)
+    ensures want { result.1 ≡ (if is_reached then only (Want.Act (Act.Choose level)) [] else cases_want level left []) }
+    ensures steps { WhileOpen result.1 ((x : Taken) (xs : List Taken)
+        → (if is_reached then only (Want.Act (Act.Choose level)) (x ∷ xs) else cases_want level left (x ∷ xs)) ≡ rest_behind result.0 x xs) }
+    ensures plain { is_plain result.0 ≡ true }
+{
+    if is_reached {
+        choose(level)
+    } else {
+        (
+            Progress::Cases { level, left },
+            Want::Inner(Task::PassOver(1)),
+        )
+    }
+}
+
+/// The number of `\ifcase`.
+fn case_number(level: u32, number: Number) -> (Progress, Want)
+    ensures want { result.1 ≡ case_of level (cases_before (first_number number)) [] }
+    ensures steps { WhileOpen result.1 ((x : Taken) (xs : List Taken)
+        → case_of level (cases_before (first_number number)) (x ∷ xs) ≡ rest_behind result.0 x xs) }
+    ensures plain { is_plain result.0 ≡ true }
+{
+    case_of(level, cases_before(number))
+}
+
+/// By what a case that was passed over was left with.
+fn case_passed(level: u32, left: Option<u32>, told: &Told) -> (Progress, Want)
+    ensures want { result.1 ≡ rest (Progress.CasesLeft level left) (Token.Frozen 0) Meaning.Undefined told.now [] }
+    ensures steps { WhileOpen result.1 (Steps (Progress.CasesLeft level left) (Token.Frozen 0) Meaning.Undefined told.now result.0) }
+    ensures plain { is_plain result.0 ≡ true }
+{
+    behind_case(level, left, goes_on(told), word_told(told))
+}
+
+/// A case was passed over, and the next one is reached or passed over too.
+fn next_case(level: u32, left: Option<u32>) -> (Progress, Want)
+    ensures want { result.1 ≡ case_of level (one_less left) [] }
+    ensures steps { WhileOpen result.1 ((x : Taken) (xs : List Taken) → case_of level (one_less left) (x ∷ xs) ≡ rest_behind result.0 x xs) }
+    ensures plain { is_plain result.0 ≡ true }
+{
+    case_of(level, one_less(left))
+}
+
+/// The same by whether there is more to pass over, and by the word that ended the case.
+#[tactic(auto, using(asking::specs::Asked::asking, crate::proofs::Cases::cases))]
+fn behind_case(level: u32, left: Option<u32>, goes_on: bool, word: u8) -> (Progress, Want)
+    ensures want { result.1 ≡ (if goes_on then cases_want level left [] else (if word == 2 then case_of level (one_less left) [] else done)) }
+    ensures steps { WhileOpen result.1 ((x : Taken) (xs : List Taken)
+        → (if goes_on then cases_want level left (x ∷ xs) else (if word == 2 then case_of level (one_less left) (x ∷ xs) else done)) ≡ rest_behind result.0 x xs) }
+    ensures plain { is_plain result.0 ≡ true }
+{
+    if goes_on {
+        (
+            Progress::Cases { level, left },
+            Want::Inner(Task::PassOver(1)),
+        )
+    } else if word == 2 {
+        next_case(level, left)
+    } else {
+        finished()
+    }
+}
+
+/// Whether two doesn't divide a number.
+fn is_odd(number: i32) -> bool
+    ensures { result ≡ is_odd number }
+{
+    number.unsigned_abs() % 2 == 1
 }
 
 /// The relation's byte, where the token is one.
@@ -247,15 +652,26 @@ fn is_space(meaning: &Meaning) -> bool
     }
 }
 
+/// The branch in front of `\else` is read.
+fn choose(level: u32) -> (Progress, Want)
+    ensures progress { result.0 ≡ Progress.Finishing Option.None }
+    ensures want { result.1 ≡ Want.Act (Act.Choose level) }
+{
+    last_act(Act::Choose(level))
+}
+
 fn decided(level: u32, holds: bool) -> (Progress, Want)
     ensures want { result.1 ≡ decided holds level [] }
     ensures steps { WhileOpen result.1 ((x : Taken) (xs : List Taken) → decided holds level (x ∷ xs) ≡ rest_behind result.0 x xs) }
     ensures plain { is_plain result.0 ≡ true }
 {
     if holds {
-        last_act(Act::Choose(level))
+        choose(level)
     } else {
-        (Progress::PassedOver { level }, Want::Inner(Task::PassOver))
+        (
+            Progress::PassedOver { level },
+            Want::Inner(Task::PassOver(0)),
+        )
     }
 }
 
@@ -265,7 +681,10 @@ fn left(level: u32, goes_on: bool) -> (Progress, Want)
     ensures plain { is_plain result.0 ≡ true }
 {
     if goes_on {
-        (Progress::PassedOver { level }, Want::Inner(Task::PassOver))
+        (
+            Progress::PassedOver { level },
+            Want::Inner(Task::PassOver(0)),
+        )
     } else {
         finished()
     }
@@ -277,7 +696,7 @@ fn met(goes_on: bool) -> (Progress, Want)
     ensures plain { is_plain result.0 ≡ true }
 {
     if goes_on {
-        (Progress::ToFi, Want::Inner(Task::PassOver))
+        (Progress::ToFi, Want::Inner(Task::PassOver(0)))
     } else {
         finished()
     }
@@ -291,7 +710,7 @@ fn to_fi(word: u8) -> (Progress, Want)
     if word == 0 {
         last_act(Act::Close)
     } else {
-        (Progress::ToFi, Want::Inner(Task::PassOver))
+        (Progress::ToFi, Want::Inner(Task::PassOver(0)))
     }
 }
 

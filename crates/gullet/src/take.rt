@@ -26,7 +26,11 @@ pub fn take_token(
 {
     match progress {
         Progress::Number { scan, .. } => number::take_token(alloc, scan, token, meaning),
-        Progress::Passing { scan, taken } => passing::take_token(scan, taken, meaning),
+        Progress::Passing {
+            sought,
+            scan,
+            taken,
+        } => passing::take_token(sought, scan, taken, meaning),
         Progress::Call { name, called, scan } => call::take_token(name, called, scan, token),
         plain => step(alloc, plain, token, meaning, Told::Done),
     }

@@ -55,6 +55,72 @@ pub enum BranchWord {
     Or,
 }
 
+/// What `\ifvmode` and its mates ask of the mode in which commands are carried out.
+#[derive(Clone, Copy, Debug, PartialEq, Eq)]
+pub enum ModeTest {
+    Vertical,
+    Horizontal,
+    Math,
+    Inner,
+}
+
+/// What `\if` and `\ifcat` compare of two characters.
+#[derive(Clone, Copy, Debug, PartialEq, Eq)]
+pub enum Part {
+    Code,
+    Category,
+}
+
+/// A character as `\if` and `\ifcat` see it.
+#[derive(Clone, Copy, Debug)]
+pub struct Glyph {
+    pub cat: u8,
+    pub byte: u8,
+}
+
+/// What a condition asks.
+#[derive(Clone, Copy, Debug, PartialEq, Eq)]
+pub enum Test {
+    /// `\if`, `\ifcat`.
+    Alike(Part),
+    /// `\ifnum`.
+    Number,
+    /// `\ifodd`.
+    Odd,
+    /// `\ifvmode`, `\ifhmode`, `\ifmmode`, `\ifinner`.
+    Mode(ModeTest),
+    /// `\ifx`.
+    SameMeaning,
+    /// `\iftrue`, `\iffalse`.
+    Always(bool),
+    /// `\ifcase`.
+    Case,
+}
+
+/// How a number is written.
+#[derive(Clone, Copy, Debug, PartialEq, Eq)]
+pub enum Numerals {
+    /// In decimal digits.
+    Decimal,
+    /// In lower-case roman numerals.
+    Roman,
+}
+
+/// A name whose expansion is one thing that is done.
+#[derive(Clone, Copy, Debug, PartialEq, Eq)]
+pub enum Simple {
+    /// `\endinput`.
+    EndInput,
+    /// `\noexpand`.
+    NoExpand,
+    /// `\string`.
+    TokenText,
+    /// `\meaning`.
+    MeaningText,
+    /// `\jobname`.
+    JobName,
+}
+
 /// A kind of phrase.
 #[derive(Drop)]
 pub enum Task {
@@ -68,12 +134,14 @@ pub enum Task {
     Call { name: Token, called: Macro },
     /// `\expandafter`.
     ExpandAfter,
-    /// `\number`.
-    NumberText,
-    /// `\ifnum`, up to the beginning of the chosen branch.
-    IfNumber,
-    /// A text that is passed over.
-    PassOver,
+    /// `\the`.
+    The,
+    /// `\number` or `\romannumeral`.
+    NumberText(Numerals),
+    /// A condition, up to the beginning of the chosen branch.
+    If(Test),
+    /// A text that is passed over, up to the `\or` of this number, up to none with 0.
+    PassOver(u32),
     /// `\else`, `\or` or `\fi`.
     BranchEnd { token: Token, word: BranchWord },
     /// `\csname`.
@@ -82,6 +150,8 @@ pub enum Task {
     Input(Token),
     /// The name of a file.
     FileName,
+    /// A name of which one thing is done.
+    Simple(Simple),
 }
 
 /// What a phrase, or something that is done for it, tells.
@@ -96,6 +166,8 @@ pub enum Told {
     /// That there is more to pass over.
     GoOn,
     Text(Text),
+    /// Whether what was asked is so.
+    Holds(bool),
 }
 
 /// What is done for a phrase.
@@ -114,13 +186,22 @@ pub enum Act {
     PassUndefined(Token),
     /// A quantity is looked at.
     Look(Quantity),
-    /// The register of this number is looked at.
-    LookRegister {
+    /// The register, or the code of the character, of this number is looked at.
+    LookNumbered {
         code: u16,
         number: Number,
     },
-    /// The digits of a number are put in front.
-    Digits(Number),
+    /// The list of the token register of this number is put in front.
+    PutRegister(Number),
+    /// The list of a token parameter is put in front, by the code of its name.
+    PutParameter(u16),
+    /// A token that may not stand behind `\the` ends the run.
+    CantUse(Token),
+    /// A number, a dimension or a glue is put in front, written so.
+    Digits {
+        numerals: Numerals,
+        number: Number,
+    },
     /// A macro's text is put in front.
     Text {
         body: TokenList,
@@ -151,6 +232,14 @@ pub enum Act {
     MakeName(Text),
     /// A file is opened.
     ReadFile(Text),
+    /// It is asked which mode is in force.
+    AskMode(ModeTest),
+    /// It is asked whether a token that was taken isn't to be expanded.
+    AskMarked(Token),
+    /// Two tokens are taken, and it is asked whether they mean the same.
+    AskSame,
+    /// The one thing of a name is done.
+    Simple(Simple),
 }
 
 /// What a phrase wants next.

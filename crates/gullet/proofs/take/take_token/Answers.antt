@@ -1,10 +1,10 @@
 -- A step takes a token up.
-use Rattle.std.proofs.Common.{◌≡◌, true, IfOk, sym, subst, rules}
+use Rattle.std.proofs.Common.{◌≡◌, true, IfOk, sym, subst}
 use Rattle.std.proofs.lemmas.Result.{IfOk-weaker}
 use Rattle.gullet.specs.declared.progress.Progress.{Progress}
 use Rattle.gullet.specs.Progress.{TakesUp, is_plain}
 use Rattle.gullet.specs.Wants.{Tok}
-use Rattle.gullet.proofs.PlainSteps.{step_takes_up}
+use Rattle.gullet.proofs.PlainSteps.{token_is_plain, step_takes_up}
 use Rattle.gullet.proofs.take.take_token.Goals as goal
 
 pub returns-in-Number : goal.returns-in-Number
@@ -24,5 +24,5 @@ returns-in-Call c =
 
 pub returns-in_default : goal.returns-in_default
 returns-in_default c =
-    let plain : is_plain c.args.progress ≡ true = search rules in
+    let plain : is_plain c.args.progress ≡ true = token_is_plain c.args.progress c.in_default.not-Number c.in_default.not-Passing c.in_default.not-Call in
     step_takes_up c.args.progress (Tok c.args.token c.args.meaning.now) c.step.result plain c.step.ensures.want c.step.ensures.steps c.step.ensures.plain

@@ -1,4 +1,4 @@
-use Rattle.gullet.specs.Next.{ends_left}
+use Rattle.gullet.specs.RawToken.{ends_left}
 use Rattle.gullet.specs.State.{state_of}
 use Rattle.gullet.proofs.Seeking.{Passes}
 use Rattle.gullet.proofs.gullet.Gullet.next_raw.Given as goal

@@ -1,0 +1,115 @@
+//! Categories and macros that stand in the environment before a line is read.
+ghost use Rattle.std.specs.Prelude.{◌≡◌, ◌<◌, Bool, IsTrue, IfOk};
+ghost use Rattle.save_groups.specs.Values.{is_category, names_in_mode};
+
+use super::reading::tokens_of;
+use super::tex::Tex;
+use save_groups::parameters::END_LINE_CHAR;
+use save_groups::{Env, Key, Scope, Value};
+use std::alloc::AllocError;
+use std::marker::Brand;
+use std::sync::ledger::{Blank, Ledger};
+use std::test::Fail;
+use steps::Steps;
+use tokens::{Macro, Meaning, NameId};
+
+/// A macro: its name, its parameter text and its body. The macro `o` is outer.
+pub type Definition = (&'static [u8], &'static [u8], &'static [u8]);
+
+/// The characters that are to have another category than INITEX gives them.
+const CHARACTERS: &[u8] = b"{}#~";
+
+/// The category of such a character.
+fn category(byte: u8) -> i32
+    ensures { IsTrue (is_category result) }
+{
+    match byte {
+        b'{' => 1,
+        b'}' => 2,
+        b'#' => 6,
+        _ => 13,
+    }
+}
+
+/// Puts nothing behind a line.
+fn end_lines_with_nothing<L: Ledger>(
+    env: &mut Env,
+    steps: &mut Steps<L>,
+) -> Result<(), AllocError> {
+    let key = Key::Parameter(END_LINE_CHAR);
+    env.assign(key, Value::Number(-1), Scope::Global, steps)
+}
+
+/// Gives each of these characters its category.
+fn set_categories<L: Ledger>(env: &mut Env, steps: &mut Steps<L>) -> Result<(), AllocError> {
+    for byte in CHARACTERS {
+        let key = Key::Code {
+            table: 0,
+            byte: *byte,
+        };
+        env.assign(key, Value::Number(category(*byte)), Scope::Global, steps)?;
+    }
+    Ok(())
+}
+
+/// A macro of these texts.
+fn meaning_of(tex: &mut Tex, definition: &Definition) -> Result<Meaning, Fail>
+    ensures { IfOk result (λ meaning. (extended : Bool) → IsTrue (names_in_mode extended meaning)) }
+{
+    let (name, params, body) = *definition;
+    Ok(Meaning::Macro(Macro {
+        long: false,
+        outer: name == b"o".as_slice(),
+        guarded: false,
+        params: tokens_of(tex, params)?,
+        body: tokens_of(tex, body)?,
+    }))
+}
+
+/// Gives a name its meaning.
+fn give<L: Ledger>(
+    env: &mut Env,
+    name: NameId,
+    meaning: Meaning,
+    steps: &mut Steps<L>,
+) -> Result<(), AllocError>
+    requires { (extended : Bool) → IsTrue (names_in_mode extended meaning) }
+{
+    env.assign(
+        Key::Name(name),
+        Value::Meaning(meaning),
+        Scope::Global,
+        steps,
+    )
+}
+
+/// Defines one macro.
+fn define_one<L: Ledger>(
+    tex: &mut Tex,
+    definition: &Definition,
+    steps: &mut Steps<L>,
+) -> Result<(), Fail> {
+    let meaning = meaning_of(tex, definition)?;
+    let name = tex.name(definition.0)?;
+    give(&mut tex.site.env, name, meaning, steps)?;
+    Ok(())
+}
+
+fn define_all<L: Ledger>(tex: &mut Tex, macros: &[Definition], blank: Blank) -> Result<(), Fail>
+    requires name { blank.name ≡ L.name }
+    requires parts { blank.parts ≡ L.parts }
+    requires some { 0 < L.parts }
+{
+    let mut steps = Steps::<L>::new(blank);
+    end_lines_with_nothing(&mut tex.site.env, &mut steps)?;
+    set_categories(&mut tex.site.env, &mut steps)?;
+    for definition in macros {
+        define_one(tex, definition, &mut steps)?;
+    }
+    Ok(())
+}
+
+/// Gives the characters their categories, has nothing put behind a line, and defines the macros.
+pub fn define(tex: &mut Tex, macros: &[Definition]) -> Result<(), Fail> {
+    define_all::<Brand>(tex, macros, Blank::new(1))
+}
