@@ -1,6 +1,6 @@
 -- Keys of entries that have their values of the start change neither the registers that are held nor the nodes.
 use Rattle.std.proofs.Common.{◌≡◌, ℕ, List, [], ◌∷◌, ◌++◌, length, Bool, true, false, refl, ap, sym, ◌∙◌, subst}
-use Rattle.std.specs.Prelude.{ℤ, pos, nat_lt, nat_le, not, filter, Option, Result, Ok, Err, if◌then◌else◌, ◌==◌}
+use Rattle.std.specs.Prelude.{ℤ, pos, nat_lt, nat_le, not, filter, Option, None, Some, Result, Ok, Err, if◌then◌else◌, ◌==◌}
 use Rattle.std.specs.Ordering.{int_eq}
 use Rattle.std.specs.List.{list_any, list_all}
 use Rattle.std.proofs.lemmas.Bool.{and_from, and_parts, eq-eqb, false≢true}
@@ -14,11 +14,13 @@ use Rattle.tokens.specs.declared.meaning.RegKind.TheVariants.{Count, Dimen, Skip
 use Rattle.tokens.specs.Codes.{nullfont_code}
 use Rattle.tokens.specs.Meaning.{same_meaning}
 use Rattle.tokens.specs.Primitives.{primitive_meaning, primitive_count}
-use Rattle.save_groups.specs.declared.group.Left.{Left}
+use Rattle.save_groups.specs.declared.call.Told.{Told}
+use Rattle.nodes.specs.declared.boxes.BoxNode.{BoxNode}
+use Rattle.nodes.specs.declared.node.Node.{Node}
 use Rattle.save_groups.specs.declared.call.Call.{Call}
-use Rattle.save_groups.specs.declared.call.Call.TheVariants.{Assign, Enter, Leave, AfterGroup}
+use Rattle.save_groups.specs.declared.call.Call.TheVariants.{Assign, Enter, Leave, AfterGroup, SetBoxSize, SwapBox}
 use Rattle.save_groups.specs.declared.key.Key.{Key}
-use Rattle.save_groups.specs.declared.key.Key.TheVariants.{Register, Parameter, Code, Name, Active, CurrentFont, Family}
+use Rattle.save_groups.specs.declared.key.Key.TheVariants.{Register, Parameter, Code, Name, Active, CurrentFont, Family, Shape, Penalties}
 use Rattle.save_groups.specs.declared.key.Scope.TheVariants.{Local, Global}
 use Rattle.save_groups.specs.declared.value.Value.{Value}
 use Rattle.save_groups.specs.declared.value.Value.TheVariants as value
@@ -27,6 +29,7 @@ use Rattle.save_groups.specs.Keys.{same_key, is_glue_parameter, is_token_paramet
 use Rattle.save_groups.specs.Values.{same_value}
 use Rattle.save_groups.specs.StartValues.{start_value, start_parameter_by, start_number, start_code}
 use Rattle.save_groups.specs.Environments.{Copies, OpenGroup, beginning, start_environment, left_by, with_after_by}
+use Rattle.save_groups.specs.InPlace.{box_of, resized_by}
 use Rattle.save_groups.specs.Assignment.{assigned_here, changes_nothing}
 use Rattle.save_groups.specs.Calls.{Attempt, done, attempted, attempted_by, after_attempts, given}
 use Rattle.save_groups.specs.Nodes.{named_by_meaning, named_by, tree_register, tree_registers, distinct_keys, held_by_saves, held_by_meanings, held_registers, is_initial, set_registers, prefixes, distinct_prefixes, nodes, FurtherKeysLaw, is_never_given, GivenKeysLaw}
@@ -60,6 +63,8 @@ no_register extended (Name id) kind number = no_register-name (nat_lt id.0 (prim
 no_register extended (Active byte) kind number = refl
 no_register extended CurrentFont kind number = refl
 no_register extended (Family size n) kind number = refl
+no_register extended Shape kind number = refl
+no_register extended (Penalties array) kind number = refl
 
 names_nothing-meaning : (extended : Bool) (key : Key) (m : Meaning) → same_value (start_value extended key) (value.Meaning m) ≡ true → named_by_meaning m ≡ []
 names_nothing-meaning extended key meaning.Undefined h = refl
@@ -76,6 +81,8 @@ names_nothing extended key (value.Number n) h = refl
 names_nothing extended key (value.Glue g) h = refl
 names_nothing extended key (value.Tokens xs) h = refl
 names_nothing extended key (value.Meaning m) h = names_nothing-meaning extended key m h
+names_nothing extended key (value.Boxed b) h = refl
+names_nothing extended key (value.Table ns) h = refl
 
 -- ---- one further key
 
@@ -105,6 +112,8 @@ tree-further (Name id) c h = refl
 tree-further (Active byte) c h = refl
 tree-further CurrentFont c h = refl
 tree-further (Family size number) c h = refl
+tree-further Shape c h = refl
+tree-further (Penalties array) c h = refl
 
 set-further : (key : Key) (keys : List Key) (c : Copies) → is_initial c key ≡ true → set_registers (key ∷ keys) c ≡ set_registers keys c
 set-further key keys c h =
@@ -156,6 +165,8 @@ start-same extended (Name id) = start-same-name (nat_lt id.0 (primitive_count ex
 start-same extended (Active byte) = refl
 start-same extended CurrentFont = refl
 start-same extended (Family size number) = refl
+start-same extended Shape = refl
+start-same extended (Penalties array) = refl
 
 -- the mode stays
 mode-locally : (key : Key) (v : Value) (c : Copies) (b : Bool) → (if b then c else assigned_here key v c).extended ≡ c.extended
@@ -166,18 +177,24 @@ mode-left : (groups : List OpenGroup) (c : Copies) → (left_by groups c).extend
 mode-left [] c = refl
 mode-left (group ∷ groups) c = refl
 
+mode-resized : (b : Option (BoxNode (List Node))) (number part : ℕ) (size : ℤ) (c : Copies) → (resized_by b number part size c).extended ≡ c.extended
+mode-resized None number part size c = refl
+mode-resized (Some b) number part size c = refl
+
 mode-done : (call : Call) (c : Copies) → (done call c).extended ≡ c.extended
 mode-done (Assign key v Local) c = mode-locally key v c (changes_nothing key v c)
 mode-done (Assign key v Global) c = refl
 mode-done (Enter kind line) c = refl
 mode-done Leave c = mode-left c.groups c
+mode-done (SetBoxSize number part size) c = mode-resized (box_of number c.last) number part size c
+mode-done (SwapBox number content) c = refl
 mode-done (AfterGroup token) c = mode-after c.groups
   where
     mode-after : (groups : List OpenGroup) → (with_after_by token groups c).extended ≡ c.extended
     mode-after [] = refl
     mode-after (group ∷ groups) = refl
 
-mode-attempted : (call : Call) (answer : Result (Option Left) Stop) (c : Copies) → (attempted_by call answer c).extended ≡ c.extended
+mode-attempted : (call : Call) (answer : Result Told Stop) (c : Copies) → (attempted_by call answer c).extended ≡ c.extended
 mode-attempted call (Ok tells) c = mode-done call c
 mode-attempted call (Err stop) c = refl
 

@@ -5,7 +5,7 @@ use Rattle.std.proofs.Math.Path.{fun_ext}
 use Rattle.std.proofs.lemmas.Bool.{and_from, and_parts, eq-eqb, eqb-true, false≢true, false_from_ne_true}
 use Rattle.tokens.specs.Meaning.{same_reg_kind, same_reg_kind-equal, same_reg_kind-refl}
 use Rattle.save_groups.specs.declared.key.Key.{Key}
-use Rattle.save_groups.specs.declared.key.Key.TheVariants.{Register, Parameter, Code, Name, Active, CurrentFont, Family}
+use Rattle.save_groups.specs.declared.key.Key.TheVariants.{Register, Parameter, Code, Name, Active, CurrentFont, Family, Shape, Penalties}
 use Rattle.save_groups.specs.declared.value.Value.{Value}
 use Rattle.save_groups.specs.declared.entry.Entry.{Entry}
 use Rattle.save_groups.specs.Keys.{same_key}
@@ -31,6 +31,8 @@ same_key-equal (Family size number) (Family s n) h =
     let first : size ≡ s = eqb-true size s p.0 in
     let second : number ≡ n = eqb-true number n p.1 in
     cc
+same_key-equal Shape Shape h = refl
+same_key-equal (Penalties array) (Penalties a) h = ap Penalties (eqb-true array a h)
 same_key-equal _ _ h = cc
 
 pub same_key-refl : (x : Key) → same_key x x ≡ true
@@ -41,6 +43,8 @@ same_key-refl (Name id) = eq-eqb id.0 id.0 refl
 same_key-refl (Active byte) = eq-eqb byte byte refl
 same_key-refl CurrentFont = refl
 same_key-refl (Family size number) = and_from _ _ (eq-eqb size size refl) (eq-eqb number number refl)
+same_key-refl Shape = refl
+same_key-refl (Penalties array) = eq-eqb array array refl
 
 pub same_key-sym : (x y : Key) (b : Bool) → same_key x y ≡ b → same_key y x ≡ b
 same_key-sym x y true h = let P : Key → Type 0 = λ z. same_key z x ≡ true in subst P (same_key-equal x y h) (same_key-refl x)

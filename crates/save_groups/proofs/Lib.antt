@@ -1,5 +1,6 @@
 pub mod Replaced
 pub mod Starting
+pub mod Reaching
 pub mod KeyLemmas
 pub mod Undoing
 pub mod Keeping
@@ -10,3 +11,4 @@ pub mod Assigning
 pub mod Modes
 pub mod Given
 pub mod Further
+pub mod Places

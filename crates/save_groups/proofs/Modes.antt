@@ -9,7 +9,7 @@ use Rattle.tokens.specs.declared.meaning.Meaning.TheVariants.{Undefined, Font, P
 use Rattle.tokens.specs.declared.meaning.RegKind.TheVariants.{Count, Dimen, Skip, Muskip, Box, Toks}
 use Rattle.tokens.specs.Primitives.{primitive_meaning, primitive_count}
 use Rattle.save_groups.specs.declared.key.Key.{Key}
-use Rattle.save_groups.specs.declared.key.Key.TheVariants.{Register, Parameter, Code, Name, Active, CurrentFont, Family}
+use Rattle.save_groups.specs.declared.key.Key.TheVariants.{Register, Parameter, Code, Name, Active, CurrentFont, Family, Shape, Penalties}
 use Rattle.save_groups.specs.declared.value.Value.{Value}
 use Rattle.save_groups.specs.declared.entry.Entry.{Entry}
 use Rattle.save_groups.specs.declared.save.Save.{Save}
@@ -115,6 +115,8 @@ start-value extended (Name id) = start-name extended (nat_lt id.0 (primitive_cou
 start-value extended (Active byte) = refl
 start-value extended CurrentFont = refl
 start-value extended (Family size number) = refl
+start-value extended Shape = refl
+start-value extended (Penalties array) = refl
 
 pub mode-start : (extended : Bool) (saves : List Save) (e : Environment) → saves ≡ [] → ((key : Key) → e key ≡ start_environment extended key) → IsInMode extended saves e
 mode-start extended saves e none start = record {

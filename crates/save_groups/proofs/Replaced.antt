@@ -1,22 +1,24 @@
 -- An entry that is put into the tables changes the environment at its key, and nowhere else.
 use Rattle.std.proofs.Common.{◌≡◌, ◌≢◌, ℕ, zero, suc, ◌<◌, ◌≤◌, List, [], length, Bool, true, false, refl, ap, sym, ◌∙◌, arith, subst}
-use Rattle.std.specs.Prelude.{ℤ, pos, negsuc, nat_lt, nat_le, ◌==◌, ◌&&◌, ◌||◌, not, IsTrue, slice_index, slice_set, if◌then◌else◌}
+use Rattle.std.specs.Prelude.{ℤ, pos, negsuc, nat_lt, nat_le, ◌==◌, ◌&&◌, ◌||◌, not, IsTrue, Option, None, slice_index, slice_set, if◌then◌else◌}
 use Rattle.std.proofs.lemmas.Bool.{ltb-true, lt-ltb, eqb-true, eq-eqb, and_parts, and_from, ne_eqb, eqb-false, false≢true, leb-true}
 use Rattle.std.proofs.lemmas.List.{get_or-set_same, get_or-set_other}
 use Rattle.scaled.specs.declared.spacing.Glue.{Glue}
+use Rattle.nodes.specs.declared.boxes.BoxNode.{BoxNode}
+use Rattle.nodes.specs.declared.node.Node.{Node}
 use Rattle.tokens.specs.declared.token.Token.{Token}
-use Rattle.tokens.specs.declared.meaning.RegKind.TheVariants.{Count, Dimen, Skip, Muskip, Toks}
+use Rattle.tokens.specs.declared.meaning.RegKind.TheVariants.{Count, Dimen, Skip, Muskip, Box, Toks}
 use Rattle.save_groups.specs.declared.key.Key.{Key}
-use Rattle.save_groups.specs.declared.key.Key.TheVariants.{Register, Parameter, Code, Name, Active, CurrentFont, Family}
+use Rattle.save_groups.specs.declared.key.Key.TheVariants.{Register, Parameter, Code, Name, Active, CurrentFont, Family, Shape, Penalties}
 use Rattle.save_groups.specs.declared.value.Value.{Value}
 use Rattle.save_groups.specs.declared.value.Value.TheVariants as value
 use Rattle.save_groups.specs.declared.entry.Entry.{Entry}
 use Rattle.tokens.specs.Parameters.{first_glue_place, first_token_place, first_extended_place, everyeof_place}
-use Rattle.save_groups.specs.Keys.{is_glue_parameter, is_token_parameter, holds_number, holds_glue, holds_tokens}
+use Rattle.save_groups.specs.Keys.{is_glue_parameter, is_token_parameter, holds_number, holds_glue, holds_tokens, holds_box, holds_table}
 use Rattle.save_groups.specs.Values.{fits, is_number_of, is_category}
 use Rattle.save_groups.specs.StartValues.{start_code, start_number, zero_glue}
 use Rattle.save_groups.specs.Environments.{updated}
-use Rattle.save_groups.specs.Entries.{Entries, at, as_value, fresh, entry_at, parameter_by, parameter_entry, parameter_room_by, has_parameter_room, category_entry, category_of, code_place, family_place, has_room, with_number, with_glue, with_tokens}
+use Rattle.save_groups.specs.Entries.{Entries, at, as_value, fresh, entry_at, parameter_by, parameter_entry, parameter_room_by, has_parameter_room, category_entry, category_of, code_place, family_place, has_room, with_number, with_glue, with_tokens, with_box, with_table}
 
 -- a table with one entry changed
 written_by : {A : Type 0} (wrap : A → Value) (start : A) (table : List (Entry A)) (place other : ℕ) (entry : Entry A) (b : Bool)
@@ -249,6 +251,8 @@ at_with_number (Family size number) entry e room kind range (Family s n) =
 at_with_number (Family size number) entry e room kind range _ = refl
 at_with_number (Name id) entry e room kind range other = absurd (false≢true kind)
 at_with_number (Active byte) entry e room kind range other = absurd (false≢true kind)
+at_with_number Shape entry e room kind range other = absurd (false≢true kind)
+at_with_number (Penalties array) entry e room kind range other = absurd (false≢true kind)
 
 glue_parameter_written : (place other : ℕ) (entry : Entry Glue) (e : Entries) → IsTrue (has_parameter_room e place) → is_glue_parameter place ≡ true
     → parameter_entry (record e { glue_parameters = slice_set e.glue_parameters place entry }) other
@@ -285,6 +289,31 @@ at_with_tokens (Parameter place) entry e room kind (Parameter other) = list_para
 at_with_tokens (Parameter place) entry e room kind _ = refl
 at_with_tokens _ entry e room kind other = absurd (false≢true kind)
 
+pub at_with_box : (key : Key) (entry : Entry (Option (BoxNode (List Node)))) (e : Entries) → IsTrue (has_room e key) → IsTrue (holds_box key)
+    → (other : Key) → at (with_box key entry e) other ≡ updated key (as_value value.Boxed entry) (at e) other
+at_with_box (Register Box n) entry e room kind (Register Box m) = written value.Boxed None e.boxes n m entry (ltb-true _ _ room)
+at_with_box (Register Box n) entry e room kind _ = refl
+at_with_box _ entry e room kind other = absurd (false≢true kind)
+
+pub at_with_table : (key : Key) (entry : Entry (List ℤ)) (e : Entries) → IsTrue (has_room e key) → IsTrue (holds_table key)
+    → (other : Key) → at (with_table key entry e) other ≡ updated key (as_value value.Table entry) (at e) other
+at_with_table Shape entry e room kind Shape = refl
+at_with_table Shape entry e room kind _ = refl
+at_with_table (Penalties n) entry e room kind (Penalties m) = written value.Table [] e.penalties n m entry (ltb-true _ _ room)
+at_with_table (Penalties n) entry e room kind _ = refl
+at_with_table (Register Count n) entry e room kind other = absurd (false≢true kind)
+at_with_table (Register Dimen n) entry e room kind other = absurd (false≢true kind)
+at_with_table (Register Skip n) entry e room kind other = absurd (false≢true kind)
+at_with_table (Register Muskip n) entry e room kind other = absurd (false≢true kind)
+at_with_table (Register Box n) entry e room kind other = absurd (false≢true kind)
+at_with_table (Register Toks n) entry e room kind other = absurd (false≢true kind)
+at_with_table (Parameter place) entry e room kind other = absurd (false≢true kind)
+at_with_table (Code table byte) entry e room kind other = absurd (false≢true kind)
+at_with_table (Name id) entry e room kind other = absurd (false≢true kind)
+at_with_table (Active byte) entry e room kind other = absurd (false≢true kind)
+at_with_table CurrentFont entry e room kind other = absurd (false≢true kind)
+at_with_table (Family size number) entry e room kind other = absurd (false≢true kind)
+
 -- an entry of any kind of value
 pub replaced_number : (key : Key) (v : Value) (level : ℕ) (n : ℤ) (e new : Entries) → v ≡ value.Number n → IsTrue (has_room e key) → IsTrue (fits key v)
     → new ≡ with_number key (record { value = n; level = level }) e → (other : Key) → at new other ≡ updated key (record { value = v; level = level }) (at e) other
@@ -307,3 +336,17 @@ replaced_tokens key v level xs e new is room fit put other =
     let F : Value → Type 0 = λ w. IsTrue (fits key w) in
     let P : Value → Type 0 = λ w. at (with_tokens key (record { value = xs; level = level }) e) other ≡ updated key (record { value = w; level = level }) (at e) other in
     ap (λ (f : Entries). at f other) put ∙ subst P (sym is) (at_with_tokens key (record { value = xs; level = level }) e room (subst F is fit) other)
+
+pub replaced_box : (key : Key) (v : Value) (level : ℕ) (b : Option (BoxNode (List Node))) (e new : Entries) → v ≡ value.Boxed b → IsTrue (has_room e key) → IsTrue (fits key v)
+    → new ≡ with_box key (record { value = b; level = level }) e → (other : Key) → at new other ≡ updated key (record { value = v; level = level }) (at e) other
+replaced_box key v level b e new is room fit put other =
+    let F : Value → Type 0 = λ w. IsTrue (fits key w) in
+    let P : Value → Type 0 = λ w. at (with_box key (record { value = b; level = level }) e) other ≡ updated key (record { value = w; level = level }) (at e) other in
+    ap (λ (f : Entries). at f other) put ∙ subst P (sym is) (at_with_box key (record { value = b; level = level }) e room (subst F is fit) other)
+
+pub replaced_table : (key : Key) (v : Value) (level : ℕ) (ns : List ℤ) (e new : Entries) → v ≡ value.Table ns → IsTrue (has_room e key) → IsTrue (fits key v)
+    → new ≡ with_table key (record { value = ns; level = level }) e → (other : Key) → at new other ≡ updated key (record { value = v; level = level }) (at e) other
+replaced_table key v level ns e new is room fit put other =
+    let F : Value → Type 0 = λ w. IsTrue (fits key w) in
+    let P : Value → Type 0 = λ w. at (with_table key (record { value = ns; level = level }) e) other ≡ updated key (record { value = w; level = level }) (at e) other in
+    ap (λ (f : Entries). at f other) put ∙ subst P (sym is) (at_with_table key (record { value = ns; level = level }) e room (subst F is fit) other)

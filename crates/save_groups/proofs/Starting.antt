@@ -1,6 +1,6 @@
 -- The tables of the start stand for the environment of the start.
 use Rattle.std.proofs.Common.{◌≡◌, ℕ, zero, suc, ◌<◌, ◌≤◌, List, [], ◌∷◌, length, Bool, true, false, refl, ap, sym, ◌∙◌, arith}
-use Rattle.std.specs.Prelude.{pos, ◌/◌, ◌%◌, nat_lt, map, replicate, slice_index, slice_index_or, if◌then◌else◌}
+use Rattle.std.specs.Prelude.{pos, None, ◌/◌, ◌%◌, nat_lt, map, replicate, slice_index, slice_index_or, if◌then◌else◌}
 use Rattle.std.specs.List.{range_with_len}
 use Rattle.std.proofs.lemmas.Bool.{ltb-true, lt-ltb, false_from_ne_true, false≢true}
 use Rattle.std.proofs.lemmas.List.FromFn.{get_or-map-range_with_len, length-map-range_with_len}
@@ -9,13 +9,13 @@ use Rattle.tokens.specs.declared.meaning.Meaning.TheVariants.{Undefined}
 use Rattle.tokens.specs.Primitives.{start_meaning, primitive_meaning}
 use Rattle.tokens.specs.Categories.{initial_categories, initial_category}
 use Rattle.save_groups.specs.declared.key.Key.{Key}
-use Rattle.save_groups.specs.declared.key.Key.TheVariants.{Register, Parameter, Code, Name, Active, CurrentFont, Family}
+use Rattle.save_groups.specs.declared.key.Key.TheVariants.{Register, Parameter, Code, Name, Active, CurrentFont, Family, Shape, Penalties}
 use Rattle.save_groups.specs.declared.value.Value.{Value}
 use Rattle.save_groups.specs.declared.value.Value.TheVariants as value
 use Rattle.save_groups.specs.declared.entry.Entry.{Entry}
 use Rattle.save_groups.specs.Keys.{is_glue_parameter, is_token_parameter}
 use Rattle.save_groups.specs.StartValues.{start_code, start_number, start_parameter_by, zero_glue}
-use Rattle.save_groups.specs.StartTables.{start_numbers, start_codes, start_names, start_levels, number_at_start, code_at_start, meaning_at_start}
+use Rattle.save_groups.specs.StartTables.{start_numbers, start_codes, start_names, start_levels, start_boxes, start_penalties, void_at_start, table_at_start, number_at_start, code_at_start, meaning_at_start}
 use Rattle.save_groups.specs.Environments.{start_environment}
 use Rattle.save_groups.specs.Entries.{Entries, at, as_value, fresh, entry_at, parameter_by, category_entry, code_place, family_place}
 
@@ -24,6 +24,7 @@ pub record IsStart (extended : Bool) (e : Entries) : Type 0 where
   pub dimens : e.dimens ≡ []
   pub skips : e.skips ≡ []
   pub muskips : e.muskips ≡ []
+  pub boxes : e.boxes ≡ start_boxes
   pub lists : e.lists ≡ []
   pub number_parameters : e.number_parameters ≡ start_numbers
   pub glue_parameters : e.glue_parameters ≡ []
@@ -35,6 +36,8 @@ pub record IsStart (extended : Bool) (e : Entries) : Type 0 where
   pub actives : e.actives ≡ []
   pub font : e.font ≡ fresh (pos 0)
   pub families : e.families ≡ []
+  pub shape : e.shape ≡ fresh []
+  pub penalties : e.penalties ≡ start_penalties
 
 -- where the test fails
 not_below : (m n : ℕ) → nat_lt m n ≡ false → n ≤ m
@@ -49,7 +52,7 @@ below_or_not m n P under over = by_test (nat_lt m n) refl
     by_test false e = over (not_below m n e)
 
 -- what stands behind a table's end
-past_end : {A : Type 0} (xs : List A) (k : ℕ) (d : A) → length xs ≤ k → slice_index_or xs k d ≡ d
+pub past_end : {A : Type 0} (xs : List A) (k : ℕ) (d : A) → length xs ≤ k → slice_index_or xs k d ≡ d
 past_end [] k d h = refl
 past_end (x ∷ xs) zero d h = absurd (omega arith)
 past_end (x ∷ xs) (suc k) d h = past_end xs k d (omega arith)
@@ -66,6 +69,14 @@ empty wrap start table place e = ap (λ t. entry_at wrap start t place) e
 number_filled : (place : ℕ) → slice_index_or start_numbers place (fresh (pos (start_number place))) ≡ fresh (pos (start_number place))
 unfolding start_numbers
 number_filled place = filled number_at_start 111 place (fresh (pos (start_number place))) (λ below. refl)
+
+box_filled : (number : ℕ) → slice_index_or start_boxes number (fresh None) ≡ fresh None
+unfolding start_boxes
+box_filled number = filled void_at_start 256 number (fresh None) (λ below. refl)
+
+table_filled : (array : ℕ) → slice_index_or start_penalties array (fresh []) ≡ fresh []
+unfolding start_penalties
+table_filled array = filled table_at_start 4 array (fresh []) (λ below. refl)
 
 row_of : (t b : ℕ) → b < 256 → code_place t b / 256 ≡ t
 row_of t b below = omega arith
@@ -149,7 +160,7 @@ at_start extended e h (Register Count n) = empty value.Number _ e.counts n h.cou
 at_start extended e h (Register Dimen n) = empty value.Number _ e.dimens n h.dimens
 at_start extended e h (Register Skip n) = empty value.Glue _ e.skips n h.skips
 at_start extended e h (Register Muskip n) = empty value.Glue _ e.muskips n h.muskips
-at_start extended e h (Register Box n) = refl
+at_start extended e h (Register Box n) = ap (λ t. entry_at value.Boxed None t n) h.boxes ∙ ap (as_value value.Boxed) (box_filled n)
 at_start extended e h (Register Toks n) = empty value.Tokens _ e.lists n h.lists
 at_start extended e h (Parameter place) = at_parameter e extended place (is_glue_parameter place) (is_token_parameter place) h
 at_start extended e h (Code zero byte) = at_category e extended byte (nat_lt byte 256) refl h
@@ -159,6 +170,8 @@ at_start extended e h (Name id) =
 at_start extended e h (Active byte) = empty value.Meaning _ e.actives byte h.actives
 at_start extended e h CurrentFont = ap (as_value value.Number) h.font
 at_start extended e h (Family size number) = at_family e extended size number (nat_lt number 16) h
+at_start extended e h Shape = ap (as_value value.Table) h.shape
+at_start extended e h (Penalties array) = ap (λ t. entry_at value.Table [] t array) h.penalties ∙ ap (as_value value.Table) (table_filled array)
 
 -- how far the tables of the start reach
 pub length-start_numbers : length start_numbers ≡ 111
@@ -168,6 +181,14 @@ length-start_numbers = length-map-range_with_len number_at_start 0 111
 pub length-start_codes : length start_codes ≡ 1280
 unfolding start_codes
 length-start_codes = length-map-range_with_len code_at_start 0 1280
+
+pub length-start_penalties : length start_penalties ≡ 4
+unfolding start_penalties
+length-start_penalties = length-map-range_with_len table_at_start 0 4
+
+pub length-start_boxes : length start_boxes ≡ 256
+unfolding start_boxes
+length-start_boxes = length-map-range_with_len void_at_start 0 256
 
 pub length-start_levels : length start_levels ≡ 256
 unfolding start_levels

@@ -71,7 +71,7 @@ neither true c h = absurd (false≢true (sym h))
 neither false true h = absurd (false≢true (sym h))
 neither false false h = (refl, refl)
 
-undone-unsaved : (saves : List Save) (key : Key) (x : Entry Value) (env : Environment) → is_saved key saves ≡ false
+pub undone-unsaved : (saves : List Save) (key : Key) (x : Entry Value) (env : Environment) → is_saved key saves ≡ false
     → undone saves (updated key x env) ≡ updated key x (undone saves env)
 undone-unsaved [] key x env h = refl
 undone-unsaved (save ∷ saves) key x env h =
@@ -79,7 +79,7 @@ undone-unsaved (save ∷ saves) key x env h =
     ap (restored save) (undone-unsaved saves key x env p.1)
     ∙ restored-other save key x (undone saves env) (same_key-sym save.key key false p.0)
 
-undone-unsaved_at : (saves : List Save) (key : Key) (env : Environment) → is_saved key saves ≡ false → undone saves env key ≡ env key
+pub undone-unsaved_at : (saves : List Save) (key : Key) (env : Environment) → is_saved key saves ≡ false → undone saves env key ≡ env key
 undone-unsaved_at [] key env h = refl
 undone-unsaved_at (save ∷ saves) key env h =
     let p = neither (same_key save.key key) (is_saved key saves) h in

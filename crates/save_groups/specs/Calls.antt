@@ -1,22 +1,26 @@
 -- Lists of calls on the environments with their answers, of which some may be refusals: the environments are those
 -- that the accepted calls make, one after another, and each answer is what the definitions tell of them.
-use Rattle.std.specs.Prelude.{◌≡◌, ◌⊎◌, ◌+◌, ◌<◌, ◌≤◌, Bool, false, List, [], ◌∷◌, ◌++◌, length, Option, None, IsSome, IsTrue, Result, Ok, Err}
-use Rattle.std.specs.Option.{option_map}
+use Rattle.std.specs.Prelude.{◌≡◌, ◌⊎◌, ◌+◌, ◌<◌, ◌≤◌, Bool, false, List, [], ◌∷◌, ◌++◌, length, Option, None, Some, IsSome, IsTrue, Result, Ok, Err}
 use Rattle.std.specs.List.{list_any}
 use Rattle.tokens.specs.declared.stop.Stop.{Stop}
 use Rattle.tokens.specs.declared.stop.Stop.TheVariants.{Capacity, OutOfMemory}
 use Rattle.tokens.specs.declared.cap.Cap.TheVariants.{Groups}
 use Rattle.save_groups.specs.declared.call.Call.{Call}
-use Rattle.save_groups.specs.declared.call.Call.TheVariants.{Assign, Enter, Leave, AfterGroup}
-use Rattle.save_groups.specs.declared.group.Left.{Left}
+use Rattle.save_groups.specs.declared.call.Call.TheVariants.{Assign, Enter, Leave, AfterGroup, SetBoxSize, SwapBox}
+use Rattle.save_groups.specs.declared.call.Told.{Told}
+use Rattle.save_groups.specs.declared.call.Told.TheVariants.{Nothing, Group, Resized, Taken}
+use Rattle.tokens.specs.declared.meaning.RegKind.TheVariants.{Box}
 use Rattle.save_groups.specs.declared.key.Key.{Key}
+use Rattle.save_groups.specs.declared.key.Key.TheVariants.{Register}
 use Rattle.save_groups.specs.declared.key.Scope.{Scope}
 use Rattle.save_groups.specs.declared.key.Scope.TheVariants.{Global}
 use Rattle.save_groups.specs.declared.value.Value.{Value}
+use Rattle.save_groups.specs.declared.value.Value.TheVariants as value
 use Rattle.save_groups.specs.declared.entry.Entry.{Entry}
 use Rattle.save_groups.specs.Keys.{same_key, is_key}
 use Rattle.save_groups.specs.Values.{fits, is_in_mode}
-use Rattle.save_groups.specs.Environments.{Environment, Copies, environments, start_environment, beginning, entered, left, innermost, told_of, with_after}
+use Rattle.save_groups.specs.InPlace.{in_place, box_of, has_box, can_swap, resized}
+use Rattle.save_groups.specs.Environments.{Environment, OpenGroup, Copies, environments, start_environment, beginning, entered, left, innermost, told_of, with_after}
 use Rattle.save_groups.specs.Assignment.{assigned}
 use Rattle.save_groups.specs.Standing.{Store, copies_of}
 
@@ -27,6 +31,8 @@ IsAllowed (Assign key value scope) c =
 IsAllowed (Enter kind line) c = Unit {0}
 IsAllowed Leave c = IsSome (innermost c)
 IsAllowed (AfterGroup token) c = IsSome (innermost c)
+IsAllowed (SetBoxSize number part size) c = IsTrue (is_key c.extended (Register Box number)) × part < 3
+IsAllowed (SwapBox number content) c = IsTrue (is_key c.extended (Register Box number)) × IsTrue (can_swap number content c.last)
 
 -- what a call that isn't refused makes of the environments
 abbrev pub done : Call → Copies → Copies
@@ -34,13 +40,21 @@ done (Assign key value scope) c = assigned key value scope c
 done (Enter kind line) c = entered kind line c
 done Leave c = left c
 done (AfterGroup token) c = with_after token c
+done (SetBoxSize number part size) c = resized number part size c
+done (SwapBox number content) c = in_place (Register Box number) (value.Boxed content) c
 
 -- and what it tells
-abbrev pub told : Call → Copies → Option Left
-told (Assign key value scope) c = None
-told (Enter kind line) c = None
-told Leave c = option_map told_of (innermost c)
-told (AfterGroup token) c = None
+abbrev pub told_left : Option OpenGroup → Told
+told_left None = Nothing
+told_left (Some group) = Group (told_of group)
+
+abbrev pub told : Call → Copies → Told
+told (Assign key value scope) c = Nothing
+told (Enter kind line) c = Nothing
+told Leave c = told_left (innermost c)
+told (AfterGroup token) c = Nothing
+told (SetBoxSize number part size) c = Resized (has_box number c.last)
+told (SwapBox number content) c = Taken (box_of number c.last)
 
 -- where a call can be accepted: a group can begin where fewer than 255 are open
 abbrev pub CanPass : Call → Copies → Type 0
@@ -48,32 +62,37 @@ CanPass (Assign key value scope) c = Unit {0}
 CanPass (Enter kind line) c = length c.groups < 255
 CanPass Leave c = Unit {0}
 CanPass (AfterGroup token) c = Unit {0}
+CanPass (SetBoxSize number part size) c = Unit {0}
+CanPass (SwapBox number content) c = Unit {0}
 
--- how and where it can be refused: a group at the limit alone, leaving never, the others for want of memory
+-- how and where it can be refused: a group at the limit alone, leaving and changes in place never, the others for
+-- want of memory
 abbrev pub IsRefusal : Call → Stop → Copies → Type 0
 IsRefusal (Assign key value scope) stop c = stop ≡ OutOfMemory
 IsRefusal (Enter kind line) stop c = (stop ≡ Capacity Groups) × (255 ≤ length c.groups)
 IsRefusal Leave stop c = ⊥
 IsRefusal (AfterGroup token) stop c = stop ≡ OutOfMemory
+IsRefusal (SetBoxSize number part size) stop c = ⊥
+IsRefusal (SwapBox number content) stop c = ⊥
 
 -- what is told is what the definitions say
-abbrev pub IsExact : Call → Copies → Result (Option Left) Stop → Type 0
+abbrev pub IsExact : Call → Copies → Result Told Stop → Type 0
 IsExact call c (Ok tells) = (tells ≡ told call c) × CanPass call c
 IsExact call c (Err stop) = IsRefusal call stop c
 
 -- a refused call changes nothing
-abbrev pub attempted_by : Call → Result (Option Left) Stop → Copies → Copies
+abbrev pub attempted_by : Call → Result Told Stop → Copies → Copies
 attempted_by call (Ok tells) c = done call c
 attempted_by call (Err stop) c = c
 
 -- what a call answers, with the environments before and behind it
-abbrev pub Answers : Call → Copies → Result (Option Left) Stop → Copies → Type 0
+abbrev pub Answers : Call → Copies → Result Told Stop → Copies → Type 0
 Answers call old answer new = IsExact call old answer × (new ≡ attempted_by call answer old)
 
 -- a call with its answer
 pub record Attempt : Type 0 where
   pub call : Call
-  pub answer : Result (Option Left) Stop
+  pub answer : Result Told Stop
 
 abbrev pub attempted : Attempt → Copies → Copies
 attempted attempt c = attempted_by attempt.call attempt.answer c
@@ -124,6 +143,8 @@ keys_of (Assign key value scope) = key ∷ []
 keys_of (Enter kind line) = []
 keys_of Leave = []
 keys_of (AfterGroup token) = []
+keys_of (SetBoxSize number part size) = Register Box number ∷ []
+keys_of (SwapBox number content) = Register Box number ∷ []
 
 abbrev pub given_by : Attempt → List Key
 given_by attempt = keys_of attempt.call

@@ -1,14 +1,16 @@
 -- How the environment that is in force is stored: tables by number, place, byte and id, where an entry that no
 -- table reaches has its value of the start and the level 1.
-use Rattle.std.specs.Prelude.{ℕ, ℤ, pos, negsuc, ◌+◌, ◌*◌, nat_lt, Bool, true, false, ◌&&◌, List, [], length, slice_index, slice_index_or, slice_set, if◌then◌else◌}
+use Rattle.std.specs.Prelude.{ℕ, ℤ, pos, negsuc, ◌+◌, ◌*◌, nat_lt, Bool, true, false, ◌&&◌, List, [], Option, None, length, slice_index, slice_index_or, slice_set, if◌then◌else◌}
 use Rattle.std.proofs.Common.{zero, suc}
 use Rattle.scaled.specs.declared.spacing.Glue.{Glue}
 use Rattle.tokens.specs.declared.token.Token.{Token}
 use Rattle.tokens.specs.declared.meaning.Meaning.{Meaning}
 use Rattle.tokens.specs.declared.meaning.Meaning.TheVariants.{Undefined}
 use Rattle.tokens.specs.declared.meaning.RegKind.TheVariants.{Count, Dimen, Skip, Muskip, Box, Toks}
+use Rattle.nodes.specs.declared.boxes.BoxNode.{BoxNode}
+use Rattle.nodes.specs.declared.node.Node.{Node}
 use Rattle.save_groups.specs.declared.key.Key.{Key}
-use Rattle.save_groups.specs.declared.key.Key.TheVariants.{Register, Parameter, Code, Name, Active, CurrentFont, Family}
+use Rattle.save_groups.specs.declared.key.Key.TheVariants.{Register, Parameter, Code, Name, Active, CurrentFont, Family, Shape, Penalties}
 use Rattle.save_groups.specs.declared.value.Value.{Value}
 use Rattle.save_groups.specs.declared.value.Value.TheVariants as value
 use Rattle.save_groups.specs.declared.entry.Entry.{Entry}
@@ -22,6 +24,7 @@ pub record Entries : Type 0 where
   pub dimens : List (Entry ℤ)
   pub skips : List (Entry Glue)
   pub muskips : List (Entry Glue)
+  pub boxes : List (Entry (Option (BoxNode (List Node))))
   pub lists : List (Entry (List Token))
   -- the parameters, each table by the place among all of them
   pub number_parameters : List (Entry ℤ)
@@ -37,6 +40,9 @@ pub record Entries : Type 0 where
   -- the font that is in use, and those of families, row after row
   pub font : Entry ℤ
   pub families : List (Entry ℤ)
+  -- the shape of paragraphs, and the four arrays of penalties
+  pub shape : Entry (List ℤ)
+  pub penalties : List (Entry (List ℤ))
 
 -- an entry as environments hold it
 abbrev pub as_value : {A : Type 0} → (A → Value) → Entry A → Entry Value
@@ -76,7 +82,7 @@ at e (Register Count number) = entry_at value.Number (pos 0) e.counts number
 at e (Register Dimen number) = entry_at value.Number (pos 0) e.dimens number
 at e (Register Skip number) = entry_at value.Glue zero_glue e.skips number
 at e (Register Muskip number) = entry_at value.Glue zero_glue e.muskips number
-at e (Register Box number) = fresh (value.Number (pos 0))
+at e (Register Box number) = entry_at value.Boxed None e.boxes number
 at e (Register Toks number) = entry_at value.Tokens [] e.lists number
 at e (Parameter place) = parameter_entry e place
 at e (Code zero byte) = if nat_lt byte 256 then category_entry e byte else fresh (value.Number (start_code 0 byte))
@@ -89,6 +95,8 @@ at e CurrentFont = as_value value.Number e.font
 at e (Family size number) =
     if nat_lt number 16 then entry_at value.Number (pos 0) e.families (family_place size number)
     else fresh (value.Number (pos 0))
+at e Shape = as_value value.Table e.shape
+at e (Penalties array) = entry_at value.Table [] e.penalties array
 
 -- ---- one entry put in the place of another
 
@@ -114,6 +122,8 @@ with_number (Name id) entry e = e
 with_number (Active byte) entry e = e
 with_number CurrentFont entry e = record e { font = entry }
 with_number (Family size number) entry e = record e { families = slice_set e.families (family_place size number) entry }
+with_number Shape entry e = e
+with_number (Penalties array) entry e = e
 
 abbrev pub with_glue : Key → Entry Glue → Entries → Entries
 with_glue (Register Count number) entry e = e
@@ -129,6 +139,8 @@ with_glue (Name id) entry e = e
 with_glue (Active byte) entry e = e
 with_glue CurrentFont entry e = e
 with_glue (Family size number) entry e = e
+with_glue Shape entry e = e
+with_glue (Penalties array) entry e = e
 
 abbrev pub with_tokens : Key → Entry (List Token) → Entries → Entries
 with_tokens (Register Count number) entry e = e
@@ -144,6 +156,8 @@ with_tokens (Name id) entry e = e
 with_tokens (Active byte) entry e = e
 with_tokens CurrentFont entry e = e
 with_tokens (Family size number) entry e = e
+with_tokens Shape entry e = e
+with_tokens (Penalties array) entry e = e
 
 abbrev pub with_meaning : Key → Entry Meaning → Entries → Entries
 with_meaning (Register Count number) entry e = e
@@ -159,6 +173,42 @@ with_meaning (Name id) entry e = record e { names = slice_set e.names id.0 entry
 with_meaning (Active byte) entry e = record e { actives = slice_set e.actives byte entry }
 with_meaning CurrentFont entry e = e
 with_meaning (Family size number) entry e = e
+with_meaning Shape entry e = e
+with_meaning (Penalties array) entry e = e
+
+abbrev pub with_box : Key → Entry (Option (BoxNode (List Node))) → Entries → Entries
+with_box (Register Count number) entry e = e
+with_box (Register Dimen number) entry e = e
+with_box (Register Skip number) entry e = e
+with_box (Register Muskip number) entry e = e
+with_box (Register Box number) entry e = record e { boxes = slice_set e.boxes number entry }
+with_box (Register Toks number) entry e = e
+with_box (Parameter place) entry e = e
+with_box (Code zero byte) entry e = e
+with_box (Code (suc table) byte) entry e = e
+with_box (Name id) entry e = e
+with_box (Active byte) entry e = e
+with_box CurrentFont entry e = e
+with_box (Family size number) entry e = e
+with_box Shape entry e = e
+with_box (Penalties array) entry e = e
+
+abbrev pub with_table : Key → Entry (List ℤ) → Entries → Entries
+with_table (Register Count number) entry e = e
+with_table (Register Dimen number) entry e = e
+with_table (Register Skip number) entry e = e
+with_table (Register Muskip number) entry e = e
+with_table (Register Box number) entry e = e
+with_table (Register Toks number) entry e = e
+with_table (Parameter place) entry e = e
+with_table (Code zero byte) entry e = e
+with_table (Code (suc table) byte) entry e = e
+with_table (Name id) entry e = e
+with_table (Active byte) entry e = e
+with_table CurrentFont entry e = e
+with_table (Family size number) entry e = e
+with_table Shape entry e = record e { shape = entry }
+with_table (Penalties array) entry e = record e { penalties = slice_set e.penalties array entry }
 
 -- whether a table reaches an entry, so that it can be replaced
 abbrev pub parameter_room_by : Entries → ℕ → Bool → Bool → Bool
@@ -174,7 +224,7 @@ has_room e (Register Count number) = nat_lt number (length e.counts)
 has_room e (Register Dimen number) = nat_lt number (length e.dimens)
 has_room e (Register Skip number) = nat_lt number (length e.skips)
 has_room e (Register Muskip number) = nat_lt number (length e.muskips)
-has_room e (Register Box number) = false
+has_room e (Register Box number) = nat_lt number (length e.boxes)
 has_room e (Register Toks number) = nat_lt number (length e.lists)
 has_room e (Parameter place) = has_parameter_room e place
 has_room e (Code zero byte) =
@@ -184,3 +234,5 @@ has_room e (Name id) = nat_lt id.0 (length e.names)
 has_room e (Active byte) = nat_lt byte (length e.actives)
 has_room e CurrentFont = true
 has_room e (Family size number) = nat_lt number 16 && nat_lt (family_place size number) (length e.families)
+has_room e Shape = true
+has_room e (Penalties array) = nat_lt array (length e.penalties)

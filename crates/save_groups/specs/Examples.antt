@@ -1,8 +1,9 @@
 -- Examples on which the number of nodes is computed.
-use Rattle.std.specs.Prelude.{◌≡◌, ℕ, pos, true, List, [], ◌∷◌, None, Ok}
+use Rattle.std.specs.Prelude.{◌≡◌, ℕ, pos, true, List, [], ◌∷◌, Ok}
 use Rattle.tokens.specs.declared.meaning.Meaning.TheVariants as meaning
 use Rattle.tokens.specs.declared.meaning.RegKind.TheVariants.{Count}
 use Rattle.save_groups.specs.declared.call.Call.{Call}
+use Rattle.save_groups.specs.declared.call.Told.TheVariants.{Nothing}
 use Rattle.save_groups.specs.declared.call.Call.TheVariants.{Assign, Enter, Leave}
 use Rattle.save_groups.specs.declared.key.Key.TheVariants.{Register, Name}
 use Rattle.save_groups.specs.declared.key.Scope.TheVariants.{Local, Global}
@@ -12,7 +13,7 @@ use Rattle.save_groups.specs.Calls.{Attempt}
 use Rattle.save_groups.specs.Nodes.{nodes_after}
 
 abbrev accepted : Call → Attempt
-accepted call = record { call = call; answer = Ok None }
+accepted call = record { call = call; answer = Ok Nothing }
 
 abbrev count : ℕ → ℕ → Attempt
 count number n = accepted (Assign (Register Count number) (value.Number (pos n)) Local)

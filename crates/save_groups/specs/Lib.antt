@@ -5,6 +5,7 @@ pub mod StartValues
 pub mod StartTables
 pub mod Environments
 pub mod Assignment
+pub mod InPlace
 pub mod Entries
 pub mod Standing
 pub mod Table

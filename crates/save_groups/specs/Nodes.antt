@@ -9,7 +9,7 @@ use Rattle.tokens.specs.declared.meaning.Meaning.TheVariants as meaning
 use Rattle.tokens.specs.declared.meaning.RegKind.{RegKind}
 use Rattle.tokens.specs.Meaning.{same_reg_kind}
 use Rattle.save_groups.specs.declared.key.Key.{Key}
-use Rattle.save_groups.specs.declared.key.Key.TheVariants.{Register, Parameter, Code, Name, Active, CurrentFont, Family}
+use Rattle.save_groups.specs.declared.key.Key.TheVariants.{Register, Parameter, Code, Name, Active, CurrentFont, Family, Shape, Penalties}
 use Rattle.save_groups.specs.declared.value.Value.{Value}
 use Rattle.save_groups.specs.declared.value.Value.TheVariants as value
 use Rattle.save_groups.specs.declared.save.Save.{Save}
@@ -35,6 +35,8 @@ named_by (value.Number n) = []
 named_by (value.Glue g) = []
 named_by (value.Tokens xs) = []
 named_by (value.Meaning m) = named_by_meaning m
+named_by (value.Boxed b) = []
+named_by (value.Table ns) = []
 
 -- a key that is a register from 256 on
 abbrev pub tree_register : Key → List Key
@@ -45,6 +47,8 @@ tree_register (Name id) = []
 tree_register (Active byte) = []
 tree_register CurrentFont = []
 tree_register (Family size number) = []
+tree_register Shape = []
+tree_register (Penalties array) = []
 
 abbrev pub tree_registers : List Key → List Key
 tree_registers [] = []
@@ -99,6 +103,8 @@ prefixes_of (Name id) = []
 prefixes_of (Active byte) = []
 prefixes_of CurrentFont = []
 prefixes_of (Family size number) = []
+prefixes_of Shape = []
+prefixes_of (Penalties array) = []
 
 abbrev pub prefixes : List Key → List Prefix
 prefixes [] = []

@@ -1,6 +1,6 @@
 -- The values of INITEX, before any assignment (The TeXbook, chapters 7, 24 and appendix B; tex.web 232, 240,
 -- 250): the categories, the pairs of letters, and the few parameters that aren't zero.
-use Rattle.std.specs.Prelude.{ℕ, ℤ, pos, negsuc, ◌+◌, ◌-◌, ◌==◌, nat_le, Bool, true, false, ◌&&◌, [], if◌then◌else◌}
+use Rattle.std.specs.Prelude.{ℕ, ℤ, pos, negsuc, ◌+◌, ◌-◌, ◌==◌, nat_le, Bool, true, false, ◌&&◌, [], None, if◌then◌else◌}
 use Rattle.std.proofs.Common.{zero, suc}
 use Rattle.scaled.specs.declared.spacing.Glue.{Glue}
 use Rattle.scaled.specs.declared.spacing.Order.TheVariants.{Normal}
@@ -9,7 +9,7 @@ use Rattle.tokens.specs.Primitives.{start_meaning}
 use Rattle.tokens.specs.declared.meaning.Meaning.TheVariants.{Undefined}
 use Rattle.tokens.specs.declared.meaning.RegKind.TheVariants.{Count, Dimen, Skip, Muskip, Box, Toks}
 use Rattle.save_groups.specs.declared.key.Key.{Key}
-use Rattle.save_groups.specs.declared.key.Key.TheVariants.{Register, Parameter, Code, Name, Active, CurrentFont, Family}
+use Rattle.save_groups.specs.declared.key.Key.TheVariants.{Register, Parameter, Code, Name, Active, CurrentFont, Family, Shape, Penalties}
 use Rattle.save_groups.specs.declared.value.Value.{Value}
 use Rattle.save_groups.specs.declared.value.Value.TheVariants as value
 use Rattle.tokens.specs.Parameters.{tolerance_place, mag_place, time_place, day_place, month_place, year_place, maxdeadcycles_place, hangafter_place, escapechar_place, endlinechar_place}
@@ -91,7 +91,7 @@ start_value extended (Register Count number) = value.Number (pos 0)
 start_value extended (Register Dimen number) = value.Number (pos 0)
 start_value extended (Register Skip number) = value.Glue zero_glue
 start_value extended (Register Muskip number) = value.Glue zero_glue
-start_value extended (Register Box number) = value.Number (pos 0)
+start_value extended (Register Box number) = value.Boxed None
 start_value extended (Register Toks number) = value.Tokens []
 start_value extended (Parameter place) = start_parameter place
 start_value extended (Code table byte) = value.Number (start_code table byte)
@@ -99,3 +99,5 @@ start_value extended (Name id) = value.Meaning (start_meaning extended id.0)
 start_value extended (Active byte) = value.Meaning Undefined
 start_value extended CurrentFont = value.Number (pos 0)
 start_value extended (Family size number) = value.Number (pos 0)
+start_value extended Shape = value.Table []
+start_value extended (Penalties array) = value.Table []

@@ -1,20 +1,26 @@
 //! The environment that is in force, as tables: a register, a parameter, a code, a category and a meaning are one
 //! index away.
-ghost use Rattle.std.specs.Prelude.{◌≡◌, ◌+◌, ◌-◌, ◌*◌, ◌<◌, ◌≤◌, true, IsTrue, IfOk, OnOk};
+ghost use Rattle.std.specs.Prelude.{◌≡◌, ◌+◌, ◌-◌, ◌*◌, ◌<◌, ◌≤◌, true, None, IsTrue, IfOk, OnOk};
+ghost use Rattle.std.specs.Option.{option_copied};
+ghost use Rattle.tokens.specs.declared.meaning.RegKind.TheVariants as RegKind;
 ghost use Rattle.save_groups.specs.Environments.{start_environment, updated};
-ghost use Rattle.save_groups.specs.Entries.{at, has_room, as_value, code_place, family_place, with_number, with_glue, with_tokens, with_meaning};
-ghost use Rattle.save_groups.specs.Keys.{is_key, is_glue_parameter, is_token_parameter, holds_number, holds_glue, holds_tokens, holds_meaning};
-ghost use Rattle.save_groups.specs.Values.{same_value, fits, is_number_of, is_category};
+ghost use Rattle.save_groups.specs.Entries.{at, has_room, as_value, code_place, family_place, with_number, with_glue, with_tokens, with_meaning, with_box, with_table};
+ghost use Rattle.save_groups.specs.Keys.{is_key, is_glue_parameter, is_token_parameter, holds_number, holds_glue, holds_tokens, holds_meaning, holds_box, holds_table};
+ghost use Rattle.save_groups.specs.InPlace.{refilled, can_swap, box_in, has_box, resized_here};
+ghost use Rattle.save_groups.specs.Values.{same_value, are_void, fits, is_number_of, is_category};
 ghost use Rattle.save_groups.specs.declared.key.Key.{Key};
 ghost use Rattle.save_groups.specs.declared.value.Value.TheVariants as kind;
 
 use crate::entry::Entry;
+use crate::heap_box::HeapBox;
 use crate::initial::Initial;
 use crate::key::Key;
 use crate::parameters::{EVERY_EOF, FIRST_EXTENDED, FIRST_GLUE, FIRST_TOKENS, PARAMETER_COUNT};
 use crate::value::Value;
-use crate::{start, table};
+use crate::{numbers, start, table};
+use nodes::BoxNode;
 use scaled::Glue;
+use sqlite_items::Items;
 use std::alloc::{AllocError, Global};
 use std::marker::Model;
 use std::mem;
@@ -27,6 +33,7 @@ pub struct Current {
     dimens: Vec<Entry<i32>>,
     skips: Vec<Entry<Glue>>,
     muskips: Vec<Entry<Glue>>,
+    boxes: Vec<Entry<Option<HeapBox>>>,
     lists: Vec<Entry<TokenList>>,
     number_parameters: Vec<Entry<i32>>,
     glue_parameters: Vec<Entry<Glue>>,
@@ -40,6 +47,8 @@ pub struct Current {
     font: Entry<i32>,
     /// The fonts of the 16 families, in three sizes, row after row.
     families: Vec<Entry<i32>>,
+    shape: Entry<Items<i32>>,
+    penalties: Vec<Entry<Items<i32>>>,
     /// What stands behind the ends of tables, to be lent.
     no_tokens: TokenList,
     undefined: Meaning,
@@ -47,8 +56,11 @@ pub struct Current {
 
 impl Model for Current {
     ghost use Rattle.save_groups.specs.Entries.{Entries};
+    ghost use Rattle.save_groups.specs.InsideCurrent.{entries_code};
 
     ghost Value = { Entries };
+
+    ghost coded = { entries_code };
 
     ghost use Rattle.save_groups.specs.InsideCurrent.{entries_of, AreFull};
 
@@ -86,6 +98,16 @@ fn family_place(size: u8, number: u8) -> usize
     16 * size as usize + number as usize
 }
 
+/// The box of a register that isn't void.
+fn lent(content: &Option<HeapBox>) -> Option<&BoxNode>
+    ensures { option_copied result ≡ content.now }
+{
+    match content {
+        Some(content) => Some(content.get()),
+        None => None,
+    }
+}
+
 impl Current {
     /// The values of the start.
     pub fn new(alloc: Global, extended: bool) -> Result<Current, AllocError>
@@ -96,6 +118,7 @@ impl Current {
             dimens: Vec::new(alloc),
             skips: Vec::new(alloc),
             muskips: Vec::new(alloc),
+            boxes: start::start_boxes(alloc)?,
             lists: Vec::new(alloc),
             number_parameters: start::start_numbers(alloc)?,
             glue_parameters: Vec::new(alloc),
@@ -107,6 +130,8 @@ impl Current {
             actives: Vec::new(alloc),
             font: Entry { value: 0, level: 1 },
             families: Vec::new(alloc),
+            shape: start::table_entry(alloc, 0),
+            penalties: start::start_penalties(alloc)?,
             no_tokens: TokenList::empty(),
             undefined: Meaning::Undefined,
         })
@@ -201,6 +226,43 @@ impl Current {
         }
     }
 
+    /// A box, if it isn't void.
+    pub fn box_ref(&self, number: u16) -> Option<&BoxNode>
+        ensures { (at self.now (Key.Register RegKind.Box number)).value ≡ kind.Boxed (option_copied result) }
+    {
+        match self.boxes.get(number as usize) {
+            Some(entry) => lent(&entry.value),
+            None => None,
+        }
+    }
+
+    /// Whether a box register is void.
+    fn is_void(&self, key: Key) -> bool
+        requires { IsTrue (holds_box key) }
+        ensures { result ≡ are_void (box_in (at self.now key).value) None }
+    {
+        match key {
+            Key::Register {
+                kind: RegKind::Box,
+                number,
+            } => self.box_ref(number).is_none(),
+            _ => unreachable!(),
+        }
+    }
+
+    /// A table of numbers.
+    pub fn table(&self, key: Key) -> &[i32]
+        requires key { IsTrue (is_key true key) }
+        requires kind { IsTrue (holds_table key) }
+        ensures { (at self.now key).value ≡ kind.Table result.now }
+    {
+        match key {
+            Key::Shape => self.shape.value.as_slice(),
+            Key::Penalties(array) => self.penalties[array as usize].value.as_slice(),
+            _ => unreachable!(),
+        }
+    }
+
     /// The level of an entry.
     pub fn level(&self, key: Key) -> u16
         requires key { IsTrue (is_key true key) }
@@ -218,6 +280,8 @@ impl Current {
                 &self.families,
                 family_place(size, number),
             ),
+            Key::Shape => self.shape.level,
+            Key::Penalties(array) => table::level_at(&self.penalties, array as usize),
         }
     }
 
@@ -229,7 +293,7 @@ impl Current {
             RegKind::Dimen => table::level_at(&self.dimens, number),
             RegKind::Skip => table::level_at(&self.skips, number),
             RegKind::Muskip => table::level_at(&self.muskips, number),
-            RegKind::Box => 1,
+            RegKind::Box => table::level_at(&self.boxes, number),
             RegKind::Toks => table::level_at(&self.lists, number),
         }
     }
@@ -257,6 +321,8 @@ impl Current {
             Value::Glue(glue) => self.glue(key).is_same(*glue),
             Value::Tokens(list) => self.tokens(key).is_same(list),
             Value::Meaning(meaning) => self.meaning(key).is_same(meaning),
+            Value::Boxed(content) => content.is_none() && self.is_void(key),
+            Value::Table(numbers) => numbers::are_same(self.table(key), numbers.as_slice()),
         }
     }
 
@@ -290,14 +356,19 @@ impl Current {
             } => table::reserve(&mut self.lists, number as usize),
             Key::Register {
                 kind: RegKind::Box,
-                ..
-            } => unreachable!(),
+                number,
+            } => table::reserve(&mut self.boxes, number as usize),
             Key::Parameter(place) => self.reserve_parameter(place),
             Key::Code { .. } => {
                 let _codes = &self.codes;
                 Ok(())
             }
             Key::CurrentFont => Ok(()),
+            Key::Shape => Ok(()),
+            Key::Penalties(_) => {
+                let _penalties = &self.penalties;
+                Ok(())
+            }
             Key::Name(id) => table::reserve(&mut self.names, id.0 as usize),
             Key::Active(byte) => table::reserve(&mut self.actives, byte as usize),
             Key::Family { size, number } => table::reserve(
@@ -431,6 +502,34 @@ impl Current {
         }
     }
 
+    fn replace_box(&mut self, key: Key, entry: Entry<Option<HeapBox>>) -> Entry<Option<HeapBox>>
+        requires room { IsTrue (has_room self.old key) }
+        requires kind { IsTrue (holds_box key) }
+        ensures old { as_value kind.Boxed result ≡ at self.old key }
+        ensures new { self.new ≡ with_box key entry self.old }
+    {
+        match key {
+            Key::Register {
+                kind: RegKind::Box,
+                number,
+            } => table::replace(&mut self.boxes, number as usize, entry),
+            _ => unreachable!(),
+        }
+    }
+
+    fn replace_table(&mut self, key: Key, entry: Entry<Items<i32>>) -> Entry<Items<i32>>
+        requires room { IsTrue (has_room self.old key) }
+        requires kind { IsTrue (holds_table key) }
+        ensures old { as_value kind.Table result ≡ at self.old key }
+        ensures new { self.new ≡ with_table key entry self.old }
+    {
+        match key {
+            Key::Shape => mem::replace(&mut self.shape, entry),
+            Key::Penalties(array) => table::replace(&mut self.penalties, array as usize, entry),
+            _ => unreachable!(),
+        }
+    }
+
     /// Puts a value into an entry that the tables reach, and gives what stood there.
     pub fn replace(&mut self, key: Key, entry: Entry<Value>) -> Entry<Value>
         requires room { IsTrue (has_room self.old key) }
@@ -470,6 +569,73 @@ impl Current {
                     level: old.level,
                 }
             }
+            Value::Boxed(value) => {
+                let old = self.replace_box(key, Entry { value, level });
+                Entry {
+                    value: Value::Boxed(old.value),
+                    level: old.level,
+                }
+            }
+            Value::Table(value) => {
+                let old = self.replace_table(key, Entry { value, level });
+                Entry {
+                    value: Value::Table(old.value),
+                    level: old.level,
+                }
+            }
+        }
+    }
+
+    /// Puts a box, or void, into a register that the table reaches, at the level that it has, and gives what stood
+    /// there.
+    fn refill_box(&mut self, number: u16, content: Option<HeapBox>) -> Option<HeapBox>
+        requires { IsTrue (has_room self.old (Key.Register RegKind.Box number)) }
+        ensures old { (at self.old (Key.Register RegKind.Box number)).value ≡ kind.Boxed result }
+        ensures new { (other : Key) → at self.new other ≡ refilled (Key.Register RegKind.Box number) (kind.Boxed content) (at self.old) other }
+        ensures kept { (other : Key) → IsTrue (has_room self.old other) → IsTrue (has_room self.new other) }
+    {
+        let key = Key::Register {
+            kind: RegKind::Box,
+            number,
+        };
+        let level = self.register_level(RegKind::Box, number as usize);
+        let value = Value::Boxed(content);
+        match self.replace(key, Entry { value, level }).value {
+            Value::Boxed(old) => old,
+            _ => unreachable!(),
+        }
+    }
+
+    /// The same for any register, where what is put there is void, or the table reaches it, or a box stands there.
+    pub fn swap_box(&mut self, number: u16, content: Option<HeapBox>) -> Option<HeapBox>
+        requires { IsTrue (can_swap number content (at self.old)) }
+        ensures old { (at self.old (Key.Register RegKind.Box number)).value ≡ kind.Boxed result }
+        ensures new { (other : Key) → at self.new other ≡ refilled (Key.Register RegKind.Box number) (kind.Boxed content) (at self.old) other }
+        ensures kept { (other : Key) → IsTrue (has_room self.old other) → IsTrue (has_room self.new other) }
+    {
+        if self.boxes.len() <= number as usize {
+            return None;
+        }
+        self.refill_box(number, content)
+    }
+
+    /// Changes a size of a box that isn't void.
+    pub fn set_box_size(&mut self, number: u16, part: u8, size: i32) -> bool
+        requires { part < 3 }
+        ensures told { result ≡ has_box number (at self.old) }
+        ensures new { (other : Key) → at self.new other ≡ resized_here number part size (at self.old) other }
+        ensures kept { (other : Key) → IsTrue (has_room self.old other) → IsTrue (has_room self.new other) }
+    {
+        if self.boxes.len() <= number as usize {
+            return false;
+        }
+        match self.refill_box(number, None) {
+            Some(mut content) => {
+                content.set_size(part, size);
+                let _void = self.refill_box(number, Some(content));
+                true
+            }
+            None => false,
         }
     }
 }

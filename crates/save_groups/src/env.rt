@@ -8,7 +8,9 @@ ghost use Rattle.std.specs.List.{list_all};
 ghost use Rattle.tokens.specs.Categories.{category};
 ghost use Rattle.tokens.specs.declared.stop.Stop.TheVariants.{Capacity};
 ghost use Rattle.tokens.specs.declared.cap.Cap.TheVariants.{Groups};
-ghost use Rattle.save_groups.specs.Keys.{is_key, holds_number, holds_glue, holds_tokens, holds_meaning};
+ghost use Rattle.save_groups.specs.Keys.{is_key, holds_number, holds_glue, holds_tokens, holds_meaning, holds_table};
+ghost use Rattle.save_groups.specs.InPlace.{in_place, has_box, can_swap, resized};
+ghost use Rattle.tokens.specs.declared.meaning.RegKind.TheVariants as RegKind;
 ghost use Rattle.save_groups.specs.Values.{fits, names_in_mode, is_in_mode};
 ghost use Rattle.save_groups.specs.Environments.{beginning, updated, entered, left, innermost, told_of, with_after, level_of, kind_of, saves_inside};
 ghost use Rattle.save_groups.specs.Assignment.{assigned, changes_nothing, needs_save, assigned_locally, assigned_globally, assigned_here};
@@ -21,9 +23,11 @@ ghost use Rattle.save_groups.specs.declared.value.Value.TheVariants as kind;
 use crate::current::Current;
 use crate::entry::Entry;
 use crate::group::{Group, Left};
+use crate::heap_box::HeapBox;
 use crate::key::{Key, Scope};
 use crate::save::Save;
 use crate::value::Value;
+use nodes::BoxNode;
 use scaled::Glue;
 use sqlite_items::Items;
 use std::alloc::{AllocError, Global};
@@ -51,8 +55,12 @@ pub struct Env {
 
 impl Model for Env {
     ghost use Rattle.save_groups.specs.Standing.{Store};
+    ghost use Rattle.nodes.specs.contracts.node.Node as node;
+    ghost use Rattle.std.specs.Coded.{codes};
 
     ghost Value = { Store };
+
+    ghost coded = { Prim.hlevel (codes, node.the_row.coded) };
 
     ghost use Rattle.save_groups.specs.Kept.{store_of, IsStanding};
 
@@ -118,6 +126,23 @@ impl Env {
         ensures mode { IsTrue (names_in_mode (copies_of self.now).extended result.now) }
     {
         self.current.meaning(key)
+    }
+
+    /// A table of numbers: the shape of paragraphs, or an array of penalties.
+    pub fn table(&self, key: Key) -> &[i32]
+        requires key { IsTrue (is_key (copies_of self.now).extended key) }
+        requires kind { IsTrue (holds_table key) }
+        ensures { ((copies_of self.now).last key).value ≡ kind.Table result.now }
+    {
+        self.current.table(key)
+    }
+
+    /// The box of a register, if it isn't void.
+    pub fn box_ref(&self, n: u16) -> Option<&BoxNode>
+        requires { IsTrue (is_key (copies_of self.now).extended (Key.Register RegKind.Box n)) }
+        ensures { ((copies_of self.now).last (Key.Register RegKind.Box n)).value ≡ kind.Boxed (option_copied result) }
+    {
+        self.current.box_ref(n)
     }
 
     /// The categories of all bytes.
@@ -279,6 +304,30 @@ impl Env {
     {
         let level = self.level();
         level > 1 && self.current.level(key) != level
+    }
+
+    /// Changes the width, height or depth of a box, for the part 0, 1 or 2, to a size in sp, in place: in all groups
+    /// from that to which the box belongs inwards. Where the box is void it tells false and changes nothing. It takes no
+    /// memory.
+    pub fn set_box_size(&mut self, n: u16, part: u8, value: i32) -> bool
+        requires key { IsTrue (is_key (copies_of self.old).extended (Key.Register RegKind.Box n)) }
+        requires part { part < 3 }
+        ensures told { result ≡ has_box n (copies_of self.old).last }
+        ensures resized { copies_of self.new ≡ resized n part value (copies_of self.old) }
+    {
+        self.current.set_box_size(n, part, value)
+    }
+
+    /// Puts a box, or void, into a register in place: in all groups from that to which the box there belongs inwards.
+    /// It gives the box that stood there. A register from 256 on that is void takes no box so, since that would need
+    /// memory.
+    pub fn swap_box(&mut self, n: u16, b: Option<HeapBox>) -> Option<HeapBox>
+        requires key { IsTrue (is_key (copies_of self.old).extended (Key.Register RegKind.Box n)) }
+        requires room { IsTrue (can_swap n b (copies_of self.old).last) }
+        ensures old { ((copies_of self.old).last (Key.Register RegKind.Box n)).value ≡ kind.Boxed result }
+        ensures swapped { copies_of self.new ≡ in_place (Key.Register RegKind.Box n) (kind.Boxed b) (copies_of self.old) }
+    {
+        self.current.swap_box(n, b)
     }
 
     /// Lets a token wait for the end of the innermost group.

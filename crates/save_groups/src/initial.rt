@@ -1,6 +1,7 @@
 //! The values of entries that were never assigned.
 ghost use Rattle.std.specs.Prelude.{◌≡◌};
 
+use crate::heap_box::HeapBox;
 use scaled::{Glue, Order};
 use tokens::{Meaning, TokenList};
 
@@ -45,6 +46,16 @@ impl Initial for TokenList {
 
     fn initial() -> TokenList {
         TokenList::empty()
+    }
+}
+
+impl Initial for Option<HeapBox> {
+    ghost use Rattle.std.specs.Prelude.{None};
+
+    ghost start = { None };
+
+    fn initial() -> Option<HeapBox> {
+        None
     }
 }
 

@@ -22,6 +22,11 @@ pub enum Key {
     /// The font of a family, 0 to 15. The sizes 0 to 2 are those of `\textfont`, `\scriptfont` and
     /// `\scriptscriptfont`.
     Family { size: u8, number: u8 },
+    /// The shape of paragraphs (`\parshape`).
+    Shape,
+    /// An array of penalties, 0 to 3: `\interlinepenalties`, `\clubpenalties`, `\widowpenalties` and
+    /// `\displaywidowpenalties`. Only extended mode has them.
+    Penalties(u8),
 }
 
 /// For how long an assignment holds.

@@ -2,18 +2,26 @@
 ghost use Rattle.std.specs.Prelude.{◌≡◌, pos, ◌<◌, IfOk};
 ghost use Rattle.std.proofs.Common.{suc};
 ghost use Rattle.save_groups.specs.StartValues.{is_capital, is_small, is_digit, start_lccode, start_uccode, start_sfcode, start_mathcode, start_delcode, start_code, start_number};
-ghost use Rattle.save_groups.specs.StartTables.{number_at_start, code_at_start, meaning_at_start, start_numbers, start_codes, start_names, start_levels};
+ghost use Rattle.save_groups.specs.StartTables.{number_at_start, code_at_start, meaning_at_start, void_at_start, table_at_start, start_boxes, start_penalties, start_numbers, start_codes, start_names, start_levels};
 
 use crate::entry::Entry;
+use crate::heap_box::HeapBox;
 use crate::parameters::{
     DAY, END_LINE_CHAR, ESCAPE_CHAR, HANG_AFTER, MAG, MAX_DEAD_CYCLES, MONTH, PARAMETER_COUNT,
     TIME, TOLERANCE, YEAR,
 };
+use sqlite_items::Items;
 use std::alloc::{AllocError, Global};
 use tokens::{Meaning, NameId, PRIMITIVE_COUNT, start_meaning};
 
 /// How many codes the five tables have that aren't categories.
 const CODE_COUNT: u16 = 1280;
+
+/// How many boxes each mode has.
+const BOX_COUNT: u16 = 256;
+
+/// How many arrays of penalties there are.
+const ARRAY_COUNT: u8 = 4;
 
 /// The parameters that are numbers, by their places.
 #[tactic(auto, unfolding(crate::specs::StartTables::start_numbers))]
@@ -160,6 +168,45 @@ fn meaning_entry(id: u16, extended: bool) -> Entry<Meaning>
 {
     Entry {
         value: start_meaning(NameId(u64::from(id)), extended),
+        level: 1,
+    }
+}
+
+/// Boxes 0 to 255.
+#[tactic(auto, unfolding(crate::specs::StartTables::start_boxes))]
+pub fn start_boxes(alloc: Global) -> Result<Vec<Entry<Option<HeapBox>>>, AllocError>
+    ensures { IfOk result (λ table. table.items ≡ start_boxes) }
+{
+    (0..BOX_COUNT)
+        .map(|number| void_entry(number))
+        .collect(alloc)
+}
+
+fn void_entry(_number: u16) -> Entry<Option<HeapBox>>
+    ensures { result ≡ void_at_start _number }
+{
+    Entry {
+        value: None,
+        level: 1,
+    }
+}
+
+/// The arrays of penalties.
+#[tactic(auto, unfolding(crate::specs::StartTables::start_penalties))]
+pub fn start_penalties(alloc: Global) -> Result<Vec<Entry<Items<i32>>>, AllocError>
+    ensures { IfOk result (λ table. table.items ≡ start_penalties) }
+{
+    (0..ARRAY_COUNT)
+        .map(|array| table_entry(alloc, array))
+        .collect(alloc)
+}
+
+/// A table without numbers.
+pub fn table_entry(alloc: Global, _array: u8) -> Entry<Items<i32>>
+    ensures { result ≡ table_at_start _array }
+{
+    Entry {
+        value: Items::new(alloc),
         level: 1,
     }
 }

@@ -12,6 +12,7 @@ use std::test::Fail;
 use steps::Steps;
 use tokens::{Meaning, NameId, RegKind, Stop, Token, TokenList};
 
+mod boxes;
 mod content;
 mod entries;
 mod field;

@@ -2,6 +2,7 @@
 ghost use Rattle.std.specs.Prelude.{◌≡◌, ◌<◌, false, IsTrue};
 ghost use Rattle.save_groups.specs.Keys.{is_key, holds_meaning};
 
+use super::boxes::{BoxStep, is_box_taken};
 use super::content::{Content, FIRST_NAME, NumberAt, give, holds, number_key};
 use super::{Groups, SEMI_SIMPLE, means, name};
 use crate::{Env, Key, Save, Scope, Value};
@@ -42,6 +43,7 @@ pub enum Step {
     Kind(u8),
     /// No further group can begin.
     Full,
+    Boxes(BoxStep),
 }
 
 /// Takes the steps of a script, from the start of a mode.
@@ -105,6 +107,7 @@ fn is_taken<L: Ledger>(alloc: Global, groups: &mut Groups<L>, step: Step) -> Res
         Step::Level(level) => Ok(groups.env.level() == level),
         Step::Kind(kind) => Ok(groups.env.group_kind() == kind),
         Step::Full => Ok(is_full(&groups.env.enter(1, 255))),
+        Step::Boxes(step) => is_box_taken(alloc, groups, step),
     }
 }
 

@@ -1,6 +1,6 @@
 -- The tables are those of the start.
-use Rattle.std.proofs.Common.{ap, ◌∙◌, refl, length}
-use Rattle.save_groups.proofs.Starting.{at_start, length-start_numbers, length-start_codes, length-start_levels, length-initial_categories}
+use Rattle.std.proofs.Common.{ap, ◌∙◌, refl, length, arith}
+use Rattle.save_groups.proofs.Starting.{at_start, length-start_numbers, length-start_codes, length-start_levels, length-start_boxes, length-start_penalties, length-initial_categories}
 use Rattle.save_groups.proofs.current.Current.new.Goals as goal
 
 pub invariant_of-result : goal.invariant_of-result
@@ -9,8 +9,10 @@ invariant_of-result c = record {
   categories = ap length c.initial.ensures ∙ length-initial_categories;
   category_levels = ap length c.start_levels.ensures ∙ length-start_levels;
   codes = ap length c.in_ok-start_codes.ensures ∙ length-start_codes;
+  penalties = ap length c.in_ok-start_penalties.ensures ∙ length-start_penalties;
   no_tokens = c.empty.ensures;
   undefined = refl;
+  boxes = omega (arith, ap length c.in_ok-start_boxes.ensures ∙ length-start_boxes);
 }
 
 pub returns : goal.returns
@@ -19,6 +21,7 @@ returns c = at_start c.args.extended _ (record {
   dimens = c.new-2.ensures.items;
   skips = c.new-3.ensures.items;
   muskips = c.new-4.ensures.items;
+  boxes = c.in_ok-start_boxes.ensures;
   lists = c.new-5.ensures.items;
   number_parameters = c.in_ok-start_numbers.ensures;
   glue_parameters = c.new-6.ensures.items;
@@ -30,4 +33,6 @@ returns c = at_start c.args.extended _ (record {
   actives = c.new-8.ensures.items;
   font = refl;
   families = c.new-9.ensures.items;
+  shape = c.table_entry.ensures;
+  penalties = c.in_ok-start_penalties.ensures;
 })

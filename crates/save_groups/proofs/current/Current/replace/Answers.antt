@@ -1,7 +1,7 @@
 -- What the tables stand for changes at the key alone.
 use Rattle.std.proofs.Common.{◌≡◌, rules}
 use Rattle.save_groups.specs.Entries.{with_number}
-use Rattle.save_groups.proofs.Replaced.{replaced_number, replaced_glue, replaced_tokens}
+use Rattle.save_groups.proofs.Replaced.{replaced_number, replaced_glue, replaced_tokens, replaced_box, replaced_table}
 use Rattle.save_groups.proofs.current.Current.replace.Goals as goal
 
 pub returns-in-Number-clause-new : goal.returns-in-Number-clause-new
@@ -20,3 +20,13 @@ pub returns-in-Tokens-clause-new : goal.returns-in-Tokens-clause-new
 returns-in-Tokens-clause-new c =
     replaced_tokens c.args.key c.args.entry.value c.args.entry.level c.in-Tokens.value c.args.self.now c.replace_tokens-old.new.self
     c.in-Tokens.is c.requires.room c.requires.kind c.replace_tokens-old.ensures.new
+
+pub returns-in-Boxed-clause-new : goal.returns-in-Boxed-clause-new
+returns-in-Boxed-clause-new c =
+    replaced_box c.args.key c.args.entry.value c.args.entry.level c.in-Boxed.value c.args.self.now c.replace_box-old.new.self
+    c.in-Boxed.is c.requires.room c.requires.kind c.replace_box-old.ensures.new
+
+pub returns-in-Table-clause-new : goal.returns-in-Table-clause-new
+returns-in-Table-clause-new c =
+    replaced_table c.args.key c.args.entry.value c.args.entry.level c.in-Table.value c.args.self.now c.replace_table-old.new.self
+    c.in-Table.is c.requires.room c.requires.kind c.replace_table-old.ensures.new
