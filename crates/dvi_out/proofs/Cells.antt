@@ -1,5 +1,5 @@
 -- The bytes of a page in which the commands of movements are left open: which byte each is depends on the marks.
-use Rattle.std.proofs.Common.{◌≡◌, ℕ, zero, suc, ◌+◌, ◌-◌, Bool, ℤ, Option, Some, None, List, [], ◌∷◌, ◌++◌, length, map, set, refl, ap, ap₂, ◌∙◌}
+use Rattle.std.proofs.Common.{◌≡◌, ℕ, zero, suc, ◌+◌, ◌-◌, Bool, ℤ, Option, Some, None, List, [], ◌∷◌, ◌++◌, length, map, set, refl, ap, ap₂}
 use Rattle.dvi_out.specs.declared.movements.Word.{Word}
 use Rattle.dvi_out.specs.SpellingPage.{Opcodes, bytes_for, lowest, repetition_of}
 

@@ -1,5 +1,5 @@
 -- The bytes of a page that are written at once are those of its commands, spelled with their last marks.
-use Rattle.std.proofs.Common.{◌≡◌, ℕ, zero, suc, ◌+◌, ◌-◌, ◌<◌, ◌≤◌, ◌⊎◌, inl, inr, Bool, true, false, cond, ◌||◌, ℤ, pos, Option, Some, None, List, [], ◌∷◌, ◌++◌, length, map, set, get_or, drop, find, slice_get, slice_index, refl, sym, ap, ap₂, ◌∙◌, subst, arith, append_assoc, append-nil, ne_of_lt, le_refl, true≢false, length-append, length-set, get_or-set_same}
+use Rattle.std.proofs.Common.{◌≡◌, ℕ, zero, suc, ◌+◌, ◌-◌, ◌<◌, ◌≤◌, ◌⊎◌, inl, inr, Bool, true, false, cond, ◌||◌, ℤ, pos, Option, Some, None, List, [], ◌∷◌, ◌++◌, length, map, set, drop, find, slice_get, slice_index, refl, sym, ap, ap₂, ◌∙◌, subst, arith, append_assoc, append-nil, ne_of_lt, le_refl, true≢false, length-append, length-set, get_or-set_same}
 use Rattle.std.proofs.lemmas.List.{map-append, length-map, get_or_append_left}
 use Rattle.std.proofs.Math.Seq.{get_or-append_seam}
 use Rattle.std.proofs.lemmas.List.Sums.{fold-append}
@@ -10,10 +10,10 @@ use Rattle.dvi_out.specs.declared.font.FontDef.{FontDef}
 use Rattle.dvi_out.specs.declared.movements.Word.{Word}
 use Rattle.dvi_out.specs.declared.movements.Movement.{Movement}
 use Rattle.dvi_out.specs.SpellingMovements.{Family, family, no_movements, opened, closed, moved, movement_at, with_found, passed_at, kept_at, with_mark, mark_here, carried, repeated}
-use Rattle.dvi_out.specs.SpellingPage.{Opcodes, horizontal, vertical, opcode_of, bytes_for, movement_bytes, movement_bytes_by, Given, Spelled, spelled, spell, spell_all, given_for, with_right, with_down, with_bytes, with_font, with_choice, with_definition, is_font, is_defined, is_chosen, choice, definition, character_bytes, across, down}
-use Rattle.dvi_out.specs.Buffer.{Track, track, Buffer, buffer, no_bytes, index_of, recoded, recoded_at, with_movement, found_for, still, with_spelled, written, written_all}
-use Rattle.dvi_out.proofs.Cells.{Cell, Byte, Code, value, new_cells, NoCode, StandsBy, none_more, stands_more, plain_none, new_none, stands_new, plain_values, all_same, same_values, patched}
-use Rattle.dvi_out.proofs.Marked.{code, seen_after_set, other_after_set, code_between, seen_after_pass, length_after_pass, appended, Added, added_new, added_sharing, kept_past}
+use Rattle.dvi_out.specs.SpellingPage.{Opcodes, horizontal, vertical, opcode_of, bytes_for, movement_bytes, movement_bytes_by, Given, Spelled, spelled, spell, spell_all, with_right, with_down, with_bytes, with_font, with_choice, with_definition, is_font, is_defined, is_chosen, choice, definition, character_bytes, across, down}
+use Rattle.dvi_out.specs.Buffer.{Track, track, Buffer, no_bytes, index_of, recoded, recoded_at, with_movement, found_for, still, with_spelled, written, written_all}
+use Rattle.dvi_out.proofs.Cells.{Cell, Byte, value, new_cells, NoCode, StandsBy, none_more, stands_more, plain_none, new_none, stands_new, plain_values, all_same, same_values, patched}
+use Rattle.dvi_out.proofs.Marked.{code, other_after_set, code_between, seen_after_pass, length_after_pass, appended, Added, added_new, added_sharing, kept_past}
 use Rattle.std.proofs.lemmas.Bool.{cases_lt}
 
 -- ---- the commands by the marks of both families

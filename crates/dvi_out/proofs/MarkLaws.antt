@@ -1,13 +1,17 @@
 -- The search for a movement, one open movement after the other.
-use Rattle.std.proofs.Common.{◌≡◌, ℕ, suc, ◌+◌, ◌-◌, ◌<◌, ◌≤◌, ℤ, pos, Option, Some, None, List, [], ◌∷◌, ◌++◌, length, take, drop, get_or, map, reverse, refl, sym, ap, ◌∙◌, arith, add-zero, add-one}
+use Rattle.std.proofs.Common.{◌≡◌, ℕ, suc, ◌+◌, ◌<◌, ◌≤◌, ℤ, Bool, true, false, if◌then◌else◌, Option, Some, None, List, ◌∷◌, length, drop, reverse, refl, sym, ap, ◌∙◌, arith, add-zero, add-one}
 use Rattle.std.specs.Option.{option_map}
 use Rattle.std.proofs.Math.Seq.{drop-cons}
 use Rattle.std.proofs.lemmas.List.{get_or-reverse, length-reverse, get_or-map, length-map, drop_all}
 use Rattle.dvi_out.specs.declared.movements.Word.{Word}
+use Rattle.dvi_out.specs.declared.movements.Word.TheVariants.{First, Second}
+use Rattle.dvi_out.specs.declared.movements.Mark.{Mark}
+use Rattle.dvi_out.specs.declared.movements.Mark.TheVariants.{Free, FirstOnly, SecondOnly, Fixed, FirstHere, SecondHere}
 use Rattle.dvi_out.specs.declared.movements.Movement.{Movement}
+use Rattle.std.specs.Ordering.{int_eq}
 use Rattle.dvi_out.specs.declared.movements.Look.{Look}
 use Rattle.dvi_out.specs.declared.movements.Look.TheVariants.{Pass, Hit, Leave}
-use Rattle.dvi_out.specs.SpellingMovements.{Family, movement_at, open_at, open_movements, look_at, search, after_look}
+use Rattle.dvi_out.specs.SpellingMovements.{Family, movement_at, open_at, open_movements, look_at, of_the_width, of_another_width, word_here, search, after_look}
 
 -- what a search found that began so many movements later
 abbrev pub later : ℕ → Option (ℕ × Word) → Option (ℕ × Word)
@@ -78,3 +82,36 @@ found_none width f k seen past found =
     ∙ ap (λ (l : List Movement). later k (search width l seen))
     (drop_all k (open_movements f)
     (omega (arith, length-map (reverse f.open_places) (movement_at f.moves), length-reverse f.open_places)))
+
+-- where a word was seen, a movement that is passed changes nothing of it
+stays_by : (same : Bool) (word : Word) (mark : Mark) (now : Option Word) →
+    (if same then of_the_width (Some word) mark else of_another_width (Some word) (word_here mark)) ≡ Pass now →
+    now ≡ Some word
+stays_by true First Free now is = cc
+stays_by true First FirstOnly now is = cc
+stays_by true First SecondOnly now is = cc
+stays_by true First Fixed now is = cc
+stays_by true First FirstHere now is = cc
+stays_by true First SecondHere now is = cc
+stays_by true Second Free now is = cc
+stays_by true Second FirstOnly now is = cc
+stays_by true Second SecondOnly now is = cc
+stays_by true Second Fixed now is = cc
+stays_by true Second FirstHere now is = cc
+stays_by true Second SecondHere now is = cc
+stays_by false First Free now is = cc
+stays_by false First FirstOnly now is = cc
+stays_by false First SecondOnly now is = cc
+stays_by false First Fixed now is = cc
+stays_by false First FirstHere now is = cc
+stays_by false First SecondHere now is = cc
+stays_by false Second Free now is = cc
+stays_by false Second FirstOnly now is = cc
+stays_by false Second SecondOnly now is = cc
+stays_by false Second Fixed now is = cc
+stays_by false Second FirstHere now is = cc
+stays_by false Second SecondHere now is = cc
+
+pub stays_seen : (width : ℤ) (word : Word) (movement : Movement) (now : Option Word) →
+    look_at width (Some word) movement ≡ Pass now → now ≡ Some word
+stays_seen width word movement now is = stays_by (int_eq movement.width width) word movement.mark now is

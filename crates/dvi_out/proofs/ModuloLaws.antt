@@ -1,6 +1,6 @@
 -- Sums of positions, modulo 2^32.
-use Rattle.std.proofs.Common.{◌≡◌, ℕ, suc, ◌+◌, ◌-◌, ◌*◌, ◌%◌, ◌^◌, ◌<◌, ℤ, pos, negsuc, ◌+ℤ◌, unsigned_abs, refl, ap, sym, ◌∙◌, arith, lit<}
-use Rattle.std.specs.Int.{w32, cast_signed, cast_unsigned, int_wrap, int_rem_euclid}
+use Rattle.std.proofs.Common.{◌≡◌, ℕ, suc, ◌+◌, ◌-◌, ◌*◌, ◌%◌, ◌^◌, ◌<◌, ℤ, pos, negsuc, ◌+ℤ◌, unsigned_abs, refl, ap, sym, arith, lit<}
+use Rattle.std.specs.Int.{w32, cast_signed, cast_unsigned, int_wrap}
 use Rattle.std.specs.Int.RustNames.{FitsSigned}
 use Rattle.std.proofs.lemmas.Int.{int_rem_euclid_is, ints}
 use Rattle.dvi_out.specs.SpellingWalk.{plus}

@@ -1,5 +1,5 @@
 -- What each kind of node does in a list of a page, and what it is where places are told.
-use Rattle.std.proofs.Common.{◌≡◌, ℕ, ℤ, Option, List, map, sym, ap, ◌∙◌}
+use Rattle.std.proofs.Common.{◌≡◌, ℕ, ℤ, Option, List, sym, ap, ◌∙◌}
 use Rattle.nodes.specs.declared.node.Node.{Node}
 use Rattle.nodes.specs.declared.node.Node.TheOpen.{Node-F}
 use Rattle.nodes.specs.declared.node.Node.TheFolds.{map-Node, fold-roll-Node}

@@ -1,5 +1,5 @@
 -- Numbers in bytes, read back.
-use Rattle.std.proofs.Common.{◌≡◌, ℕ, suc, ◌+◌, ◌-◌, ◌%◌, ◌^◌, ◌<◌, ℤ, pos, negsuc, ◌-ℤ◌, unsigned_abs, List, ◌++◌, true, false, nat_lt, cond, refl, ap, ◌∙◌, arith}
+use Rattle.std.proofs.Common.{◌≡◌, ℕ, suc, ◌-◌, ◌%◌, ◌^◌, ◌<◌, ℤ, pos, negsuc, ◌-ℤ◌, unsigned_abs, List, ◌++◌, true, false, nat_lt, cond, refl, ap, ◌∙◌, arith}
 use Rattle.std.proofs.Math.Nat.{mod-eq_of_lt}
 use Rattle.std.specs.Int.{w32, cast_unsigned}
 use Rattle.std.specs.Int.RustNames.{FitsSigned}

@@ -1,6 +1,5 @@
 -- A file against all its pages.
-use Rattle.std.proofs.Common.{◌≡◌, ℕ, ℤ, ◌+◌, max, Bool, true, false, nat_lt, cond, Some, List, [], ◌∷◌, ◌++◌, length, Result, Ok, Err, refl, sym, ap, ◌∙◌, append_assoc, subst, arith, ◌≤◌, OnOk}
-use Rattle.std.specs.List.{fold}
+use Rattle.std.proofs.Common.{◌≡◌, ℕ, ℤ, Bool, true, false, nat_lt, cond, List, [], ◌∷◌, ◌++◌, length, Result, Ok, Err, refl, sym, ap, ◌∙◌, append_assoc, subst, arith, ◌≤◌, OnOk}
 use Rattle.std.proofs.lemmas.List.{append-nil}
 use Rattle.std.proofs.lemmas.List.Sums.{fold-append}
 use Rattle.tokens.specs.declared.stop.Stop.{Stop}
@@ -10,8 +9,8 @@ use Rattle.dvi_out.specs.SpellingWalk.{Walk}
 use Rattle.std.proofs.lemmas.Bool.Decides.{nat_tests}
 use Rattle.dvi_out.specs.declared.pages.Page.{Page}
 use Rattle.dvi_out.specs.PageMade.{MakesPage, with_made}
-use Rattle.dvi_out.specs.SpellingFile.{at_least_zero, reach_down, reach_right, DviFile, ShippedPage, dvi_file, no_file, begun, preamble, page_walk, page_spelled, page_bytes, with_walk, with_page, with_more, check_answer, if_short, after_check, page_answer, post, postamble, finished, taken}
-use Rattle.dvi_out.specs.SpellingStory.{file_of, with_taken, StandsFor, IsWhole, KeepsStory, EndsStory, TakesFromStory}
+use Rattle.dvi_out.specs.SpellingFile.{at_least_zero, reach_down, reach_right, DviFile, ShippedPage, dvi_file, no_file, begun, page_walk, page_spelled, page_bytes, with_walk, with_page, check_answer, if_short, after_check, page_answer, post, postamble, finished, taken}
+use Rattle.dvi_out.specs.SpellingStory.{with_taken, StandsFor, KeepsStory, EndsStory, TakesFromStory}
 
 chosen_is : (b : Bool) (stop : Stop) (file after : DviFile) → cond b (Err stop) (Ok file) ≡ Ok after → file ≡ after
 chosen_is true stop file after is = cc

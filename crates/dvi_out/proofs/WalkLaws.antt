@@ -187,18 +187,16 @@ empty_is [] false both = let impossible = both.1 refl in cc
 empty_is (x ∷ list) true both = let impossible = both.0 refl in cc
 empty_is (x ∷ list) false both = refl
 
--- a node that is a box, with an empty list
-pub empty_box_in_list : (f : Frame) (w : Walk) (b : BoxNode (List Node)) → is_empty b.list ≡ true →
-    (printed_node (Boxed b)).in_list f w ≡ past_box f (sizes_of b) w
-empty_box_in_list f w b none =
-    in_list_Boxed f w b ∙ box_passed f (box_map printed_node b) w (empty-map printed_node b.list ∙ none)
+-- a box with an empty list
+pub empty_box : (f : Frame) (w : Walk) (b : BoxNode (List Node)) → is_empty b.list ≡ true →
+    with_box f (box_map printed_node b) w ≡ past_box f (sizes_of b) w
+empty_box f w b none = box_passed f (box_map printed_node b) w (empty-map printed_node b.list ∙ none)
 
 -- and with another list
-pub box_in_list : (f : Frame) (w : Walk) (b : BoxNode (List Node)) → is_empty b.list ≡ false →
-    (printed_node (Boxed b)).in_list f w
+pub full_box : (f : Frame) (w : Walk) (b : BoxNode (List Node)) → is_empty b.list ≡ false →
+    with_box f (box_map printed_node b) w
     ≡ behind_box f (sizes_of b) w.h w.v (box_printed (box_map printed_node b) (at_box f (sizes_of b) w))
-box_in_list f w b some =
-    in_list_Boxed f w b ∙ box_walked f (box_map printed_node b) w (empty-map printed_node b.list ∙ some)
+full_box f w b some = box_walked f (box_map printed_node b) w (empty-map printed_node b.list ∙ some)
 
 kept_is : (inside : Inside) (w after : Walk) → Keeps inside w →
     left_to inside after ≡ with_glue w.sum w.grown (with_reader w.reader_h w.reader_v after)
@@ -232,13 +230,13 @@ pub whole_box : (f : Frame) (w : Walk) (b : BoxNode (List Node)) (inside : Insid
     frame inside.around ≡ frame_of b (entered here) → begun ≡ list_begun b (entered here) → Keeps inside here →
     walked ≡ each_printed (frame inside.around) begun (map printed_node b.list) →
     behind ≡ left_to inside (left walked) → last ≡ behind_box f (sizes_of b) w.h w.v behind →
-    last ≡ (printed_node (Boxed b)).in_list f w
+    last ≡ with_box f (box_map printed_node b) w
 whole_box f w b inside here begun walked behind last some goes around begins keeps walks leaves ends =
     ends
     ∙ ap (behind_box f (sizes_of b) w.h w.v)
     (box_is b inside here begun walked behind around begins keeps walks leaves
     ∙ ap (box_printed (box_map printed_node b)) goes)
-    ∙ sym (box_in_list f w b some)
+    ∙ sym (full_box f w b some)
 
 -- a copy of a leader box, all steps together
 pub whole_copy : (f : Frame) (n between : ℕ) (start w : Walk) (b : BoxNode (List Node)) (inside : Inside)

@@ -1,5 +1,5 @@
 -- Copies of a leader box: the walk goes through them where they stand.
-use Rattle.std.proofs.Common.{◌≡◌, ℕ, zero, suc, ◌+◌, ◌-◌, ◌/◌, ◌%◌, ℤ, pos, negsuc, ◌+ℤ◌, Bool, true, false, List, [], ◌++◌, refl, sym, ap, ◌∙◌, arith, subst, unsigned_abs, add-zero}
+use Rattle.std.proofs.Common.{◌≡◌, ℕ, zero, suc, ◌-◌, ◌/◌, ◌%◌, ℤ, pos, negsuc, ◌+ℤ◌, Bool, true, false, List, [], ◌++◌, refl, sym, ap, ◌∙◌, arith, subst, unsigned_abs, add-zero}
 use Rattle.std.specs.Int.{w32, int_wrap, int_rem_euclid}
 use Rattle.std.proofs.lemmas.Int.{ints}
 use Rattle.dvi_out.specs.Places as place

@@ -1,5 +1,5 @@
 -- The worked files, by computing.
-use Rattle.std.proofs.Common.{◌≡◌, ℕ, ℤ, pos, ◌+ℤ◌, true, false, Option, Some, None, List, [], ◌∷◌, ◌++◌, map, refl, sym, ap, ◌∙◌}
+use Rattle.std.proofs.Common.{◌≡◌, ℕ, pos, ◌+ℤ◌, false, Some, None, List, [], ◌∷◌, map, refl, sym, ap, ◌∙◌}
 use Rattle.std.specs.Prelude.{codes, replicate}
 use Rattle.std.specs.Int.{int_wrap}
 use Rattle.nodes.specs.declared.node.Node.{Node}
@@ -9,15 +9,14 @@ use Rattle.nodes.specs.declared.node.KernKind.TheVariants.{Explicit}
 use Rattle.nodes.specs.declared.boxes.BoxNode.{BoxNode}
 use Rattle.nodes.specs.declared.whatsit.Whatsit.TheVariants.{Special}
 use Rattle.nodes.specs.Inside.{with_list}
-use Rattle.dvi_out.specs.declared.command.Command.{Command}
-use Rattle.dvi_out.specs.declared.command.Command.TheVariants.{Push, Pop, Right, Down, Character, SetRule, PutRule}
+use Rattle.dvi_out.specs.declared.command.Command.TheVariants.{Push, Pop, Right, Down, Character, PutRule}
 use Rattle.dvi_out.specs.DviReading.{read_from, read}
 use Rattle.dvi_out.specs.Places.{Laid, lay, laid_node, Placed, Text, box_placed, places}
-use Rattle.dvi_out.specs.SpellingWalk.{Printed, Walk, walk, plus, printed_node, synched_h, synched_v, entered, popped, left, growth, part_of, glued, space_of, advanced, with_character, with_special, rule_across, rule_down, with_rule, with_rule_leaders, each_printed, list_printed, box_printed, at_box, behind_box, past_box, with_box, with_leader, with_leaders, with_whatsit, print_step}
+use Rattle.dvi_out.specs.SpellingWalk.{Printed, Walk, walk, plus, printed_node, synched_h, synched_v, entered, popped, left, growth, part_of, glued, space_of, advanced, with_character, with_special, rule_across, rule_down, with_rule, with_rule_leaders, each_printed, list_printed, box_printed, at_box, behind_box, past_box, with_box, with_whatsit, print_step}
 use Rattle.dvi_out.specs.SpellingPage.{font_head, font_numbers, font_name, movement_bytes, with_choice, with_font, with_right, with_down}
 use Rattle.dvi_out.specs.SpellingFile.{ShippedPage, page_of, preamble, begun, page_walk, page_spelled, page_bytes, with_walk, no_file, definitions_below, post, postamble, finished}
 use Rattle.dvi_out.specs.Examples.{WorkedFiles, char_a, char_b, box, unset, font, ship, words_and_rule, point, equal_kerns, one_more, here, three_glues, widths, is_read, words_bytes, kerns_bytes, words_places, one_glue}
-use Rattle.dvi_out.proofs.Nodes.{printed-Char, printed-Boxed, printed-Rule, printed-Skip, printed-Kern, printed-Whatsit, laid-Char, laid-Boxed, laid-Rule, laid-Skip, laid-Kern, laid-Whatsit}
+use Rattle.dvi_out.proofs.Nodes.{printed-Char, printed-Boxed, printed-Rule, printed-Kern, laid-Char, laid-Boxed, laid-Rule, laid-Skip, laid-Whatsit}
 
 -- a page of a box
 abbrev page : BoxNode (List Node) → ShippedPage

@@ -9,7 +9,7 @@ use Rattle.dvi_out.specs.declared.font.FontDef.{FontDef}
 use Rattle.dvi_out.specs.declared.movements.Word.{Word}
 use Rattle.dvi_out.specs.declared.movements.Movement.{Movement}
 use Rattle.dvi_out.specs.SpellingMovements.{Family, no_movements, opened, closed, moved, movement_at, mark_here, search, open_movements, carried, repeated}
-use Rattle.dvi_out.specs.SpellingPage.{Opcodes, horizontal, vertical, opcode_of, bytes_for, movement_bytes, Spelled, spelled, Given, spell}
+use Rattle.dvi_out.specs.SpellingPage.{Opcodes, horizontal, vertical, opcode_of, bytes_for, movement_bytes, Spelled, spelled, spell}
 
 -- the movements of a family, with the place of each one's command in the bytes
 pub record Track : Type 0 where

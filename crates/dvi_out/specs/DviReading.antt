@@ -1,7 +1,7 @@
 -- What a device does that reads a DVI file: the commands one after the other, with the position, the four widths that
 -- are kept, and the stack on which all six are put.
 -- From: tex.web, sections 583 to 591 (the DVI format, version 2).
-use Rattle.std.specs.Prelude.{ℕ, zero, suc, ◌+◌, ◌-◌, ◌*◌, ◌^◌, Bool, true, false, ◌&&◌, not, ℤ, pos, ◌+ℤ◌, List, [], ◌∷◌, ◌++◌, length, take, drop, Option, Some, None, option_and_then, nat_lt, nat_le, ◌==◌, if◌then◌else◌}
+use Rattle.std.specs.Prelude.{ℕ, zero, suc, ◌+◌, ◌-◌, Bool, ◌&&◌, ℤ, pos, ◌+ℤ◌, List, [], ◌∷◌, ◌++◌, length, take, drop, Option, Some, None, option_and_then, nat_lt, nat_le, ◌==◌, if◌then◌else◌}
 use Rattle.std.specs.Int.{w32, int_wrap}
 use Rattle.byteorder.specs.Endian.{big_number, twos_complement}
 use Rattle.dvi_out.specs.Places.{Placed, Glyph, Bar, Text}

@@ -1,7 +1,6 @@
 -- Pages and files worked out by the definitions.
 -- From: tex.web, sections 583 to 642; the bytes are those that TeX writes.
-use Rattle.std.specs.Prelude.{◌≡◌, ℕ, ◌+◌, Bool, true, false, ℤ, pos, neg_ℤ, List, [], ◌∷◌, ◌++◌, Option, Some, None, codes, replicate, if◌then◌else◌, ◌==◌}
-use Rattle.scaled.specs.declared.spacing.Order.{Order}
+use Rattle.std.specs.Prelude.{◌≡◌, ℕ, Bool, true, false, ℤ, pos, List, [], ◌∷◌, Some, None, codes, replicate, if◌then◌else◌, ◌==◌}
 use Rattle.scaled.specs.declared.spacing.Order.TheVariants.{Normal}
 use Rattle.scaled.specs.declared.spacing.Glue.{Glue}
 use Rattle.nodes.specs.declared.node.Node.{Node}
@@ -12,8 +11,8 @@ use Rattle.nodes.specs.declared.boxes.GlueSet.{GlueSet}
 use Rattle.nodes.specs.declared.whatsit.Whatsit.TheVariants.{Special}
 use Rattle.dvi_out.specs.declared.font.FontDef.{FontDef}
 use Rattle.dvi_out.specs.Places.{Placed, Glyph, Bar, Text, places}
-use Rattle.dvi_out.specs.DviReading.{ReadPage, read}
-use Rattle.dvi_out.specs.SpellingFile.{ShippedPage, page_of}
+use Rattle.dvi_out.specs.DviReading.{read}
+use Rattle.dvi_out.specs.SpellingFile.{page_of}
 use Rattle.dvi_out.specs.SpellingStory.{bytes_of_file}
 
 -- ---- boxes

@@ -1,7 +1,7 @@
 -- What the symbolic commands of a page do to a device that reads a DVI file: the same as the commands of the file, with
 -- each movement told by its own width.
 -- From: tex.web, sections 583 to 591.
-use Rattle.std.specs.Prelude.{◌≡◌, ℕ, ◌+◌, ◌-◌, ◌<◌, ◌≤◌, ◌^◌, ℤ, List, [], ◌∷◌, ◌++◌, length, Option, Some, option_and_then, All, ⊤}
+use Rattle.std.specs.Prelude.{◌≡◌, ℕ, ◌-◌, ◌<◌, ◌≤◌, ◌^◌, ℤ, List, [], ◌∷◌, ◌++◌, length, Option, Some, option_and_then, All, ⊤}
 use Rattle.std.specs.Int.{w32}
 use Rattle.std.specs.Int.RustNames.{FitsSigned}
 use Rattle.dvi_out.specs.declared.command.Command.{Command}

@@ -1,5 +1,5 @@
 -- The page that a value of `Page` holds.
-use Rattle.std.specs.Prelude.{◌≡◌, ℕ, ◌+◌, max, List, ◌++◌, length, Some}
+use Rattle.std.specs.Prelude.{◌≡◌, ℕ, ◌+◌, max, ◌++◌, length, Some}
 use Rattle.dvi_out.specs.declared.pages.Page.{Page}
 use Rattle.dvi_out.specs.SpellingFile.{DviFile, dvi_file, ShippedPage, page_bytes, page_spelled, page_walk}
 

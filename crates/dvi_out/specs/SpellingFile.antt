@@ -1,7 +1,7 @@
 -- The bytes of a DVI file: the preamble, its pages, and the postamble.
 -- From: tex.web, sections 583 to 595, 602, 617 and 638 to 642; the limits on pages and their bytes are rules of this
 -- program.
-use Rattle.std.specs.Prelude.{ℕ, zero, suc, ◌+◌, ◌-◌, ◌*◌, ◌%◌, ◌^◌, max, Bool, true, false, ◌||◌, ℤ, pos, negsuc, ◌+ℤ◌, int_lt, List, [], ◌∷◌, ◌++◌, length, Option, Some, None, Result, Ok, Err, nat_lt, nat_le, if◌then◌else◌}
+use Rattle.std.specs.Prelude.{ℕ, zero, suc, ◌+◌, ◌-◌, ◌%◌, max, Bool, ◌||◌, ℤ, pos, negsuc, ◌+ℤ◌, int_lt, List, [], ◌∷◌, ◌++◌, length, Option, Some, None, Result, Ok, Err, nat_lt, nat_le, if◌then◌else◌}
 use Rattle.std.specs.List.{flat_map, find}
 use Rattle.byteorder.specs.Endian.{big_bytes}
 use Rattle.tokens.specs.declared.stop.Stop.{Stop}

@@ -1,7 +1,7 @@
 -- Which movements of a page are kept by the reader and repeated: w and x for horizontal movements, y and z for vertical
 -- ones. The two families are decided apart, each from the lists that begin and end and the movements between them.
 -- From: tex.web, sections 604 to 615.
-use Rattle.std.specs.Prelude.{ℕ, ◌+◌, ◌-◌, Bool, ℤ, pos, List, [], ◌∷◌, ◌++◌, length, take, drop, map, reverse, Option, Some, None, slice_index, slice_index_or, slice_set, if◌then◌else◌}
+use Rattle.std.specs.Prelude.{ℕ, ◌+◌, ◌-◌, ℤ, pos, List, [], ◌∷◌, ◌++◌, length, take, drop, map, reverse, Option, Some, None, slice_index, slice_index_or, slice_set, if◌then◌else◌}
 use Rattle.std.specs.List.{fold}
 use Rattle.std.specs.Option.{option_map}
 use Rattle.std.specs.Ordering.{int_eq}

@@ -1,8 +1,7 @@
 -- The bytes of a file against all its pages: what a value of this crate stands for.
 -- From: tex.web, sections 583 to 595.
-use Rattle.std.specs.Prelude.{◌≡◌, ℕ, ℤ, List, [], ◌∷◌, ◌++◌, Result, Ok, Err}
+use Rattle.std.specs.Prelude.{◌≡◌, ℕ, ℤ, List, [], ◌∷◌, ◌++◌}
 use Rattle.std.specs.List.{fold}
-use Rattle.tokens.specs.declared.stop.Stop.{Stop}
 use Rattle.dvi_out.specs.SpellingFile.{DviFile, ShippedPage, no_file, begun, with_page, finished, dvi_file}
 
 -- Spell: the file of some pages, with no byte of it taken

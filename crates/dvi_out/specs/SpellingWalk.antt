@@ -1,6 +1,6 @@
 -- The symbolic commands of a page: the walk through a box. Positions grow to the right and down.
 -- From: tex.web, sections 616 to 637 (hlist_out, vlist_out and synchronization); The TeXbook, chapters 12, 21 and 23.
-use Rattle.std.specs.Prelude.{ℕ, zero, suc, ◌+◌, ◌-◌, ◌*◌, ◌/◌, ◌%◌, max, Bool, true, false, ◌&&◌, ℤ, pos, neg_ℤ, ◌+ℤ◌, ◌-ℤ◌, ◌*ℤ◌, unsigned_abs, int_le, List, [], ◌∷◌, ◌++◌, length, take, map, Option, Some, None, unwrap_or, slice_get, nat_lt, if◌then◌else◌}
+use Rattle.std.specs.Prelude.{ℕ, zero, suc, ◌+◌, ◌-◌, ◌*◌, ◌/◌, ◌%◌, max, Bool, true, false, ◌&&◌, ℤ, pos, neg_ℤ, ◌+ℤ◌, ◌-ℤ◌, ◌*ℤ◌, unsigned_abs, int_le, List, [], ◌∷◌, ◌++◌, length, take, Option, Some, None, unwrap_or, slice_get, if◌then◌else◌}
 use Rattle.std.specs.Int.{w32, int_wrap, int_rem_euclid, is_positive, is_negative}
 use Rattle.std.specs.Ordering.{int_eq}
 use Rattle.scaled.specs.declared.spacing.Glue.{Glue}

@@ -56,6 +56,7 @@ impl Codes {
 }
 
 /// Adds the bytes of a movement.
+#[inline(always)]
 #[tactic(auto, unfolding(crate::specs::SpellingPage::movement_bytes))]
 pub(crate) fn put_movement(
     out: &mut Vec<u8>,

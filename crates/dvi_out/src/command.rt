@@ -1,6 +1,6 @@
 //! The symbolic commands of a page (`tex.web`, sections 585 to 587).
 
-use sqlite_items::Items;
+use sqlite_items::{Boxed, Items};
 
 /// What a device does, with movements by their widths and characters by their fonts in the nodes. Sizes are in sp.
 #[derive(Drop)]
@@ -20,5 +20,5 @@ pub(crate) enum Command {
     /// Sets a rule and doesn't move.
     PutRule { height: i32, width: i32 },
     /// Bytes for the program that reads the file.
-    Special(Items<u8>),
+    Special(Boxed<Items<u8>>),
 }

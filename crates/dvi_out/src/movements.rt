@@ -158,6 +158,14 @@ impl Movements {
         }
     }
 
+    /// Makes room for so many movements.
+    pub(crate) fn make_room(&mut self, count: usize) -> Result<(), AllocError>
+        ensures { family_of self.new ≡ family_of self.old }
+    {
+        self.moves.reserve(count)?;
+        self.open_places.reserve(count)
+    }
+
     /// A list begins.
     pub(crate) fn begin_list(&mut self) -> Result<(), AllocError>
         ensures { OnOk result (family_of self.new ≡ opened (family_of self.old)) }
@@ -182,8 +190,10 @@ impl Movements {
     {
         let place = self.moves.len();
         let movement = self.share(width, found);
-        self.moves.push(movement)?;
-        self.open_places.push(place)?;
+        self.moves.reserve(1)?;
+        self.moves.push_reserved(movement);
+        self.open_places.reserve(1)?;
+        self.open_places.push_reserved(place);
         Ok(())
     }
 
@@ -197,13 +207,10 @@ impl Movements {
 
     /// The open movement that stands behind so many later ones.
     fn open_at(&self, passed: usize) -> Movement
+        requires { passed < length self.now.open_places.items }
         ensures { result ≡ open_at (family_of self.now) passed }
     {
-        let latest = self.open_places.len().saturating_sub(1);
-        match self.open_places.get(latest.saturating_sub(passed)) {
-            Some(place) => movement_at(&self.moves, *place),
-            None => movement_at(&self.moves, 0),
-        }
+        movement_at(&self.moves, self.index_of(passed))
     }
 
     /// Looks for an open movement that a new one of the width can repeat: how many later ones are passed, and the word.
@@ -211,10 +218,20 @@ impl Movements {
         ensures found { result ≡ search width (open_movements (family_of self.now)) None }
         ensures places { IfSome result (λ found. found.0 < length self.now.open_places.items) }
     {
-        let mut seen = None;
-        for passed in 0..self.open_places.len() {
-            match self.open_at(passed).look(width, seen) {
-                Look::Pass(now_seen) => seen = now_seen,
+        let count = self.open_places.len();
+        for passed in 0..count {
+            match self.open_at(passed).look(width, None) {
+                Look::Pass(None) => {}
+                Look::Pass(Some(word)) => {
+                    for behind in passed + 1..count {
+                        match self.open_at(behind).look(width, Some(word)) {
+                            Look::Pass(_) => {}
+                            Look::Hit(word) => return Some((behind, word)),
+                            Look::Leave => return None,
+                        }
+                    }
+                    return None;
+                }
                 Look::Hit(word) => return Some((passed, word)),
                 Look::Leave => return None,
             }

@@ -40,7 +40,17 @@ pub(crate) fn put_lowest(out: &mut Vec<u8>, count: usize, number: i32) -> Result
 {
     let mut bytes = [0; 4];
     BigEndian::write_i32(&mut bytes, number);
-    out.extend_from_slice(&bytes[4 - count..])
+    put_each(out, &bytes[4 - count..])
+}
+
+/// Adds a few bytes, one after the other.
+fn put_each(out: &mut Vec<u8>, bytes: &[u8]) -> Result<(), AllocError>
+    ensures { OnOk result (out.new.items ≡ out.old.items ++ bytes.now) }
+{
+    for i in 0..bytes.len() {
+        out.push(bytes[i])?;
+    }
+    Ok(())
 }
 
 /// How many bytes the width of a movement takes: as few as hold it with its sign, at most 4.

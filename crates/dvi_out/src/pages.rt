@@ -110,7 +110,7 @@ fn walk_page(alloc: Global, shipped: &BoxNode, offset: (i32, i32)) -> Result<Wal
         grown: 0,
         depth: 0,
         deepest: 0,
-        commands: Vec::new(alloc),
+        commands: Vec::with_capacity(alloc, shipped.list.len())?,
     };
     walk_list(&mut walker, shipped)?;
     Ok(walker)
@@ -128,6 +128,7 @@ fn write_page(
 {
     let sources = Sources { defined, fonts };
     let mut writer = Writer::new(alloc);
+    writer.make_room(commands.len())?;
     writer.write_all(&sources, commands)?;
     Ok(writer.speller)
 }

@@ -28,6 +28,14 @@ impl Track {
         }
     }
 
+    /// Makes room for so many movements.
+    pub(crate) fn make_room(&mut self, count: usize) -> Result<(), AllocError>
+        ensures { track_of self.new ≡ track_of self.old }
+    {
+        self.places.reserve(count)?;
+        self.movements.make_room(count)
+    }
+
     /// A list begins.
     pub(crate) fn begin_list(&mut self) -> Result<(), AllocError>
         ensures { OnOk result (track_of self.new ≡ begun_track (track_of self.old)) }
@@ -60,7 +68,8 @@ impl Track {
         let found = self.movements.search(width);
         self.put(out, codes, width, found)?;
         self.movements.add(width, found)?;
-        self.places.push(place)?;
+        self.places.reserve(1)?;
+        self.places.push_reserved(place);
         Ok(())
     }
 

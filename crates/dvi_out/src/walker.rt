@@ -13,7 +13,7 @@ use crate::growth::{Spread, copies_of, growth, part_of};
 use crate::positions::{minus, onward, plus};
 use nodes::{BoxNode, GlueSet};
 use scaled::Glue;
-use sqlite_items::Items;
+use sqlite_items::{Boxed, Items};
 use std::alloc::{AllocError, Global};
 
 /// A walk through a box. Positions and sizes are in sp.
@@ -60,15 +60,18 @@ pub(crate) struct Inside {
 }
 
 impl Walker {
+    #[inline(always)]
     fn put(&mut self, command: Command) -> Result<(), AllocError>
         ensures { OnOk result (walk_of self.new ≡ with_command command (walk_of self.old)) }
     {
-        self.commands.push(command)?;
+        self.commands.reserve(1)?;
+        self.commands.push_reserved(command);
         Ok(())
     }
 
     /// Brings the reader to the walk's place, horizontally.
     #[tactic(auto, unfolding(crate::specs::SpellingWalk::synched_h))]
+    #[inline(always)]
     pub(crate) fn synch_h(&mut self) -> Result<(), AllocError>
         ensures { OnOk result (walk_of self.new ≡ synched_h (walk_of self.old)) }
     {
@@ -81,6 +84,7 @@ impl Walker {
 
     /// Brings the reader to the walk's place, vertically.
     #[tactic(auto, unfolding(crate::specs::SpellingWalk::synched_v))]
+    #[inline(always)]
     pub(crate) fn synch_v(&mut self) -> Result<(), AllocError>
         ensures { OnOk result (walk_of self.new ≡ synched_v (walk_of self.old)) }
     {
@@ -343,6 +347,7 @@ impl Walker {
 
     /// A character; in a vertical list none is set.
     #[tactic(auto, unfolding(crate::specs::SpellingWalk::with_character))]
+    #[inline(always)]
     pub(crate) fn set_character(
         &mut self,
         around: &Surroundings,
@@ -371,6 +376,7 @@ impl Walker {
         self.synch_h()?;
         self.synch_v()?;
         let bytes = Items::from_slice(self.alloc, bytes)?;
+        let bytes = Boxed::new(self.alloc, bytes)?;
         self.put(Command::Special(bytes))
     }
 

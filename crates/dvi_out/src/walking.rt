@@ -1,6 +1,6 @@
 //! The walk through a box (`tex.web`, sections 619 to 637).
 ghost use Rattle.std.specs.Prelude.{◌≡◌, map, OnOk};
-ghost use Rattle.dvi_out.specs.SpellingWalk.{list_printed, box_printed, each_printed, printed_node, with_leader, with_leaders, with_whatsit, is_empty};
+ghost use Rattle.dvi_out.specs.SpellingWalk.{list_printed, box_printed, with_box, each_printed, printed_node, with_leader, with_leaders, with_whatsit, is_empty};
 ghost use Rattle.dvi_out.specs.WalkOf.{walk_of, leaders_printed};
 ghost use Rattle.dvi_out.specs.FrameOf.{frame};
 ghost use Rattle.nodes.specs.Inside.{box_map};
@@ -60,20 +60,7 @@ fn walk_node(
             let lig = lig.get();
             walker.set_character(around, lig.font, lig.byte, lig.width)
         }
-        Node::Boxed(boxed) => {
-            let boxed = boxed.get();
-            if is_empty(boxed) {
-                walker.pass_box(around, boxed);
-                return Ok(());
-            }
-            let (h, v) = (walker.h, walker.v);
-            walker.go_to_box(around, boxed)?;
-            let inside = walker.enter_box(boxed)?;
-            walk_nodes(walker, &inside.around, boxed.list.as_slice(), levels)?;
-            walker.leave_box(&inside)?;
-            walker.go_behind_box(around, boxed, h, v);
-            Ok(())
-        }
+        Node::Boxed(boxed) => walk_box(walker, around, boxed.get(), levels),
         Node::Rule {
             width,
             height,
@@ -95,6 +82,31 @@ fn walk_node(
         Node::Adjust(_) => Ok(()),
         Node::Whatsit(whatsit) => walk_whatsit(walker, whatsit.get()),
     }
+}
+
+/// Walks through a box in a list.
+#[cycle(walking)]
+#[inline(never)]
+fn walk_box(
+    walker: &mut Walker,
+    around: &Surroundings,
+    boxed: &BoxNode,
+    levels: u64,
+) -> Result<(), AllocError>
+    ensures { OnOk result
+        (walk_of walker.new ≡ with_box (frame around.now) (box_map printed_node boxed.now) (walk_of walker.old)) }
+{
+    if is_empty(boxed) {
+        walker.pass_box(around, boxed);
+        return Ok(());
+    }
+    let (h, v) = (walker.h, walker.v);
+    walker.go_to_box(around, boxed)?;
+    let inside = walker.enter_box(boxed)?;
+    walk_nodes(walker, &inside.around, boxed.list.as_slice(), levels)?;
+    walker.leave_box(&inside)?;
+    walker.go_behind_box(around, boxed, h, v);
+    Ok(())
 }
 
 #[tactic(auto, unfolding(crate::specs::SpellingWalk::with_whatsit))]
@@ -146,6 +158,7 @@ fn walk_leaders(
 
 /// A space that is filled by an item. An item that is neither a box nor a rule leaves it empty.
 #[cycle(walking)]
+#[inline(never)]
 fn walk_leader(
     walker: &mut Walker,
     around: &Surroundings,

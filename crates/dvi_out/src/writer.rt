@@ -30,6 +30,14 @@ impl Writer {
         }
     }
 
+    /// Makes room for what so many commands write, no more than the commands take themselves.
+    pub(crate) fn make_room(&mut self, commands: usize) -> Result<(), AllocError>
+        ensures { buffer_of self.new ≡ buffer_of self.old }
+    {
+        self.speller.bytes.reserve(commands)?;
+        self.rights.make_room(commands / 2)
+    }
+
     /// Writes a command.
     fn write(&mut self, sources: &Sources, command: &Command) -> Result<(), AllocError>
         ensures { OnOk result
@@ -54,7 +62,7 @@ impl Writer {
             Command::Character { font, byte } => self.speller.set_character(sources, *font, *byte),
             Command::SetRule { height, width } => self.speller.put_rule(132, *height, *width),
             Command::PutRule { height, width } => self.speller.put_rule(137, *height, *width),
-            Command::Special(bytes) => self.speller.put_special(bytes.as_slice()),
+            Command::Special(bytes) => self.speller.put_special(bytes.get().as_slice()),
         }
     }
 

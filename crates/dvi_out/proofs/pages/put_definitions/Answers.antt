@@ -1,6 +1,5 @@
-use Rattle.std.proofs.Common.{ℕ, List, ◌++◌, ◌+◌, ◌-◌, ap, ◌∙◌, rules, arith}
-use Rattle.dvi_out.specs.SpellingFile.{definitions_below}
-use Rattle.dvi_out.proofs.FileLaws.{defined_next, defined_none, joined}
+use Rattle.std.proofs.Common.{rules, arith}
+use Rattle.dvi_out.proofs.FileLaws.{defined_none, joined}
 use Rattle.dvi_out.proofs.pages.put_definitions.Goals as goal
 
 pub loop-k-preserved : goal.loop-k-preserved

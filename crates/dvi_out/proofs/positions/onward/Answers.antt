@@ -1,4 +1,4 @@
-use Rattle.std.proofs.Common.{◌≡◌, ℤ, ◌+◌, ◌%◌, ◌^◌, ap, ◌∙◌, rules}
+use Rattle.std.proofs.Common.{ℤ, ◌+◌, ◌%◌, ◌^◌, ap, ◌∙◌, rules}
 use Rattle.std.specs.Int.{w32, cast_signed, cast_unsigned}
 use Rattle.std.proofs.lemmas.Int.{to_z-of_z}
 use Rattle.dvi_out.proofs.ModuloLaws.{onward-is}

@@ -2,7 +2,7 @@ use Rattle.std.proofs.Common.{◌≡◌, sym, rules, arith}
 use Rattle.dvi_out.specs.WalkOf.{walk_of}
 use Rattle.dvi_out.specs.FrameOf.{frame}
 use Rattle.dvi_out.specs.CopiesOf.{counted}
-use Rattle.dvi_out.proofs.WalkLaws.{in_list_Char, in_list_Lig, in_list_Rule, in_list_Skip, in_list_Kern, in_list_Penalty, in_list_Disc, in_list_Mark, in_list_Insert, in_list_Adjust, in_list_Whatsit, leader_Rule, leader_Char, leader_Lig, leader_Skip, leader_Kern, leader_Penalty, leader_Disc, leader_Mark, leader_Insert, leader_Adjust, leader_Whatsit, nodes_next, each_printed_none, times_none, empty_box_in_list, whole_box, whole_copy, whole_leaders}
+use Rattle.dvi_out.proofs.WalkLaws.{in_list_Char, in_list_Lig, in_list_Rule, in_list_Skip, in_list_Kern, in_list_Penalty, in_list_Disc, in_list_Mark, in_list_Insert, in_list_Adjust, in_list_Whatsit, leader_Rule, leader_Char, leader_Lig, leader_Skip, leader_Kern, leader_Penalty, leader_Disc, leader_Mark, leader_Insert, leader_Adjust, leader_Whatsit, nodes_next, each_printed_none, times_none, in_list_Boxed, empty_box, whole_box, whole_copy, whole_leaders}
 use Rattle.dvi_out.proofs.walking.+walking.Goals as goal
 
 pub walk_node-returns-in-Char : goal.walk_node-returns-in-Char
@@ -71,18 +71,19 @@ walk_leader-returns-in-Whatsit t c = rw (c.in-Whatsit.is, leader_Whatsit) (searc
 pub walk_node-returns-in_ok-space-in-Skip : goal.walk_node-returns-in_ok-space-in-Skip
 walk_node-returns-in_ok-space-in-Skip t c = rw (c.in-Skip.is, in_list_Skip) (search rules)
 
-pub walk_node-returns-then-is_empty : goal.walk_node-returns-then-is_empty
-walk_node-returns-then-is_empty t c =
-    rw (c.in-Boxed.is, sym c.get-boxed.ensures, empty_box_in_list (frame c.args.around.now) (walk_of c.args.walker.now) c.get-boxed.result.now (search rules))
-    (search rules)
+pub walk_node-returns-in-Boxed : goal.walk_node-returns-in-Boxed
+walk_node-returns-in-Boxed t c = rw (c.in-Boxed.is, in_list_Boxed) (search rules)
 
-pub walk_node-returns-in_ok-leave_box-in-Boxed : goal.walk_node-returns-in_ok-leave_box-in-Boxed
-walk_node-returns-in_ok-leave_box-in-Boxed t c =
-    rw (c.in-Boxed.is, sym c.get-boxed.ensures)
-    (whole_box (frame c.args.around.now) (walk_of c.args.walker.now) c.get-boxed.result.now c.in_ok-inside-in-Boxed.inside
+pub walk_box-returns-then-is_empty : goal.walk_box-returns-then-is_empty
+walk_box-returns-then-is_empty t c =
+    rw (empty_box (frame c.args.around.now) (walk_of c.args.walker.now) c.args.boxed.now (search rules)) (search rules)
+
+pub walk_box-returns : goal.walk_box-returns
+walk_box-returns t c =
+    whole_box (frame c.args.around.now) (walk_of c.args.walker.now) c.args.boxed.now c.in_ok-inside.inside
     (walk_of c.go_to_box.new.self) (walk_of c.enter_box.new.self) (walk_of c.walk_nodes.new.walker)
     (walk_of c.leave_box.new.self) (walk_of c.go_behind_box.new.self) (search rules) (search rules) (search rules)
-    (search rules) (search rules) (rw (sym c.as_slice.ensures) (search rules)) (search rules) (search rules))
+    (search rules) (search rules) (rw (sym c.as_slice.ensures) (search rules)) (search rules) (search rules)
 
 pub walk_leader-copies-init : goal.walk_leader-copies-init
 walk_leader-copies-init t c = sym (times_none _ _)

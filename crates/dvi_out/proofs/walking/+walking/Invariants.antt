@@ -22,6 +22,9 @@ decreases-walk_nodes l = 4 * l.levels
 abbrev pub decreases-walk_node : goal.decreases-walk_node
 decreases-walk_node l = 4 * l.levels + 3
 
+abbrev pub decreases-walk_box : goal.decreases-walk_box
+decreases-walk_box l = 4 * l.levels + 1
+
 abbrev pub decreases-walk_leaders : goal.decreases-walk_leaders
 decreases-walk_leaders l = 4 * l.levels + 2
 

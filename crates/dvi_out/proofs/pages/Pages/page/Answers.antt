@@ -1,6 +1,6 @@
-use Rattle.std.proofs.Common.{sym, ap, ◌∙◌, rules}
+use Rattle.std.proofs.Common.{sym, rules}
 use Rattle.dvi_out.specs.FileOf.{file_in}
-use Rattle.dvi_out.specs.SpellingFile.{page_of, at_least_zero}
+use Rattle.dvi_out.specs.SpellingFile.{page_of}
 use Rattle.dvi_out.proofs.StoryLaws.{page_by}
 use Rattle.dvi_out.proofs.pages.Pages.page.Goals as goal
 
