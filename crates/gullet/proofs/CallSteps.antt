@@ -9,7 +9,9 @@ use Rattle.macro_args.specs.declared.verdict.Verdict.{Verdict}
 use Rattle.macro_args.specs.declared.verdict.Verdict.TheVariants.{Need, Done, Refused}
 use Rattle.macro_args.specs.Arguments.{Use, Complete, Unfit, use_of}
 use Rattle.macro_args.specs.Scanning.{Scanning, StandsFor, Tells}
+use Rattle.gullet.specs.declared.calling.Parts.{Parts}
 use Rattle.gullet.specs.declared.context.Context.{Context}
+use Rattle.gullet.specs.declared.progress.Progress.{Progress}
 use Rattle.gullet.specs.declared.progress.Progress.TheVariants.{Call, Finishing}
 use Rattle.gullet.specs.declared.task.Act.{Act}
 use Rattle.gullet.specs.declared.task.Act.TheVariants as act
@@ -37,7 +39,7 @@ behind_whole : (is_done : Bool) (w : Want) (t : Token) (behind : List Token) →
 behind_whole true w t behind = refl
 behind_whole false w t behind = refl
 
-behind_taken : (w : Want) (x : Taken) (xs : List Taken) → behind_use w (was_done (x ∷ xs)) (tokens_in (x ∷ xs)) ≡ done
+pub behind_taken : (w : Want) (x : Taken) (xs : List Taken) → behind_use w (was_done (x ∷ xs)) (tokens_in (x ∷ xs)) ≡ done
 behind_taken w (Tok t m) xs = behind_whole (was_done xs) w t (tokens_in xs)
 behind_taken w (Got tells) xs = refl
 behind_taken w (Was tells) xs = refl
@@ -53,6 +55,10 @@ wants_behind c kind name called taken more is undone =
     ∙ ap (λ b. used_by name called b (use_of (matching called) called.params (tokens_in (taken ++ more)))) (was_done-append taken more undone)
     ∙ ap (λ ts. used_by name called (was_done more) (use_of (matching called) called.params ts)) (tokens_in-append taken more)
 
+-- a call of which this was read
+abbrev pub parts : Token → Macro → Scanning → Parts
+parts name called scan = record { name = name; called = called; scan = scan }
+
 -- what the reader answers to a token
 abbrev pub Answers : Scanning → Token → Verdict → Scanning → Type 0
 Answers before t verdict after = (rules : Rules) (parameters taken : List Token)
@@ -65,7 +71,7 @@ answers_with before after t v w same answers =
 
 -- the use isn't whole yet
 pub goes_on : (name : Token) (called : Macro) (before after : Scanning) (t : Token) (m : Meaning)
-    → Answers before t Need after → TakesUp (Call name called before) (Tok t m) (Call name called after) want.Raw
+    → Answers before t Need after → TakesUp (Call (parts name called before)) (Tok t m) (Call (parts name called after)) want.Raw
 goes_on name called before after t m answers = record {
   wants = λ c kind taken stands.
       let tells : StandsFor (matching called) called.params (tokens_in taken ++ t ∷ []) after =
@@ -89,7 +95,7 @@ pub record Ends (name : Token) (called : Macro) (before : Scanning) (t : Token) 
   pub used : (is_done : Bool) (more : List Token) → used_by name called is_done (seen more) ≡ behind_use (want.Act does) is_done more
 
 wants_done : (name : Token) (called : Macro) (before : Scanning) (t : Token) (m : Meaning) (does : Act) → Ends name called before t does
-    → (c : Context) (kind : Task) (taken : List Taken) → Stands (Call name called before) c kind taken
+    → (c : Context) (kind : Task) (taken : List Taken) → Stands (Call (parts name called before)) c kind taken
     → want.Act does ≡ wants c kind (taken ++ Tok t m ∷ [])
 wants_done name called before t m does ends c kind taken stands =
     let all : List Token = tokens_in taken ++ t ∷ [] in
@@ -102,7 +108,7 @@ wants_done name called before t m does ends c kind taken stands =
     )
 
 follows_done : (name : Token) (called : Macro) (before : Scanning) (t : Token) (m : Meaning) (does : Act) → Ends name called before t does
-    → (c : Context) (kind : Task) (taken : List Taken) → Stands (Call name called before) c kind taken
+    → (c : Context) (kind : Task) (taken : List Taken) → Stands (Call (parts name called before)) c kind taken
     → Follows (Finishing None) c kind (taken ++ Tok t m ∷ [])
 follows_done name called before t m does ends c kind taken stands = λ x xs.
     let now : List Taken = taken ++ Tok t m ∷ [] in
@@ -114,7 +120,7 @@ follows_done name called before t m does ends c kind taken stands = λ x xs.
     ∙ behind_taken (want.Act does) x xs
 
 takes_last : (name : Token) (called : Macro) (before : Scanning) (t : Token) (m : Meaning) (does : Act) → Ends name called before t does
-    → TakesUp (Call name called before) (Tok t m) (Finishing None) (want.Act does)
+    → TakesUp (Call (parts name called before)) (Tok t m) (Finishing None) (want.Act does)
 takes_last name called before t m does ends = record {
   wants = wants_done name called before t m does ends;
   stands = follows_done name called before t m does ends;
@@ -124,10 +130,10 @@ takes_last name called before t m does ends = record {
 -- the use is whole
 pub ends_use : (name : Token) (called : Macro) (before after : Scanning) (t : Token) (m : Meaning) (arguments : List (List Token))
     → arguments ≡ after.found → Answers before t Done after
-    → TakesUp (Call name called before) (Tok t m) (Finishing None) (want.Act (act.Text called.body arguments))
+    → TakesUp (Call (parts name called before)) (Tok t m) (Finishing None) (want.Act (act.Text called.body arguments))
 ends_use name called before after t m arguments same answers =
     let T : List (List Token) → Type 0 =
-    λ found. TakesUp (Call name called before) (Tok t m) (Finishing None) (want.Act (act.Text called.body found))
+    λ found. TakesUp (Call (parts name called before)) (Tok t m) (Finishing None) (want.Act (act.Text called.body found))
     in
     subst T (sym same)
     (takes_last name called before t m (act.Text called.body after.found) (record {
@@ -139,10 +145,49 @@ ends_use name called before after t m arguments same answers =
 -- the tokens are no use
 pub refuses : (name : Token) (called : Macro) (before after : Scanning) (t : Token) (m : Meaning) (refusal : Refusal)
     → Answers before t (Refused refusal) after
-    → TakesUp (Call name called before) (Tok t m) (Finishing None) (want.Act (act.Refuse name refusal))
+    → TakesUp (Call (parts name called before)) (Tok t m) (Finishing None) (want.Act (act.Refuse name refusal))
 refuses name called before after t m refusal answers =
     takes_last name called before t m (act.Refuse name refusal) (record {
       seen = Unfit refusal;
       whole = λ taken stands more. answers (matching called) called.params taken stands more;
       used = λ is_done more. refl;
     })
+
+-- ---- the same, of a call by its parts
+
+-- the use isn't whole yet
+pub call_goes_on : (before after : Parts) (t : Token) (m : Meaning) → after.name ≡ before.name → after.called ≡ before.called
+    → Answers before.scan t Need after.scan → TakesUp (Call before) (Tok t m) (Call after) want.Raw
+call_goes_on before after t m names calls answers =
+    let T : Token → Macro → Type 0 = λ name called. TakesUp (Call before) (Tok t m) (Call (parts name called after.scan)) want.Raw in
+    subst (λ name. T name after.called) (sym names)
+    (subst (λ called. T before.name called) (sym calls) (goes_on before.name before.called before.scan after.scan t m answers))
+
+-- the parts of a call are those of the same call
+parts_in : Progress → Parts → Parts
+parts_in (Call call) other = call
+parts_in _ other = other
+
+pub same_parts : (a b : Parts) → Call a ≡ Call b → a ≡ b
+unfolding parts_in
+same_parts a b same = ap (λ p. parts_in p a) same
+
+-- the use is whole
+pub call_ends : (before after last : Parts) (t : Token) (m : Meaning) → after.called ≡ before.called → Call after ≡ Call last
+    → Answers before.scan t Done after.scan
+    → TakesUp (Call before) (Tok t m) (Finishing None) (want.Act (act.Text last.called.body last.scan.found))
+call_ends before after last t m calls same answers =
+    let T : Parts → Type 0 = λ call. TakesUp (Call before) (Tok t m) (Finishing None) (want.Act (act.Text call.called.body call.scan.found)) in
+    let M : Macro → Type 0 = λ called. TakesUp (Call before) (Tok t m) (Finishing None) (want.Act (act.Text called.body after.scan.found)) in
+    subst T (same_parts after last same)
+    (subst M (sym calls) (ends_use before.name before.called before.scan after.scan t m after.scan.found refl answers))
+
+-- the tokens are no use
+pub call_refuses : (before after last : Parts) (t : Token) (m : Meaning) (refusal : Refusal) → after.name ≡ before.name → Call after ≡ Call last
+    → Answers before.scan t (Refused refusal) after.scan
+    → TakesUp (Call before) (Tok t m) (Finishing None) (want.Act (act.Refuse last.name refusal))
+call_refuses before after last t m refusal names same answers =
+    let T : Parts → Type 0 = λ call. TakesUp (Call before) (Tok t m) (Finishing None) (want.Act (act.Refuse call.name refusal)) in
+    let N : Token → Type 0 = λ name. TakesUp (Call before) (Tok t m) (Finishing None) (want.Act (act.Refuse name refusal)) in
+    subst T (same_parts after last same)
+    (subst N (sym names) (refuses before.name before.called before.scan after.scan t m refusal answers))

@@ -1,8 +1,7 @@
 -- Each end of a source that is told leaves fewer of them to be told.
-use Rattle.std.specs.Prelude.{◌≡◌, refl, ℕ, ℤ, ◌+◌, ◌<◌, ◌≤◌, Bool, true, false, if◌then◌else◌, List, [], ◌∷◌, Result, Ok, Err, codes}
-use Rattle.std.proofs.Common.{zero, suc, ap, sym, ◌∙◌, subst, arith}
+use Rattle.std.specs.Prelude.{◌≡◌, refl, ℕ, ℤ, ◌+◌, ◌<◌, Bool, true, false, if◌then◌else◌, List, [], ◌∷◌, Result, Ok, Err}
+use Rattle.std.proofs.Common.{ap, sym, ◌∙◌, subst, arith}
 use Rattle.tokens.specs.Budget.{is_spent, after_step}
-use Rattle.tokens.specs.Names.{interned}
 use Rattle.tokens.specs.declared.token.Token.{Token}
 use Rattle.tokens.specs.declared.stop.Stop.{Stop}
 use Rattle.tokens.specs.declared.stop.Stop.TheVariants.{Spent}
@@ -21,10 +20,10 @@ use Rattle.pending.specs.Did.{Did}
 use Rattle.asking.specs.Did as asked
 use Rattle.pending.specs.Origin.{with_line_taken}
 use Rattle.pending.specs.Pending.{Item, Ready, From}
-use Rattle.pending.specs.Take.{Looking, looking, with_eye, as_token, paid_to, taken, used_up, with_next, at_line_end, by_seen, sight_over, next_sight, Reading, reading, by_paid, by_sight, event_of, next_event}
+use Rattle.pending.specs.Take.{Looking, looking, with_eye, as_token, paid_to, used_up, with_next, at_line_end, by_seen, sight_over, next_sight, Reading, reading, by_paid, by_sight, event_of, next_event}
 use Rattle.gullet.specs.State.{State}
 use Rattle.gullet.specs.Events.{reading_of, with_reading, in_state, with_end_shown, next_event_of, take_event}
-use Rattle.gullet.specs.RawToken.{is_end, ends_of, ends_left}
+use Rattle.gullet.specs.RawToken.{is_end, ends_left}
 use Rattle.gullet.specs.Parameters.{categories, end_line}
 
 -- the end of the last line is told where it wasn't told before

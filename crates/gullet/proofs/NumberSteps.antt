@@ -50,16 +50,16 @@ while_open (verdict.DoneBefore n back) b last P Q f h = tt
 while_open (verdict.Trouble kind) b last P Q f h = tt
 while_open (verdict.Pass kind back) b last P Q f h = f h
 
-ready : (v : Verdict) (b : Bool) (last kept : Option Token) (after : IntScan)
-    → awaits after ≡ awaited_after v → Ready (number_want v b last) (Number after kept)
-ready verdict.Need true last kept after next = next
-ready verdict.Need false last kept after next = next
-ready (verdict.Ask q) b last kept after next = next
-ready (verdict.Sub phrase) b last kept after next = tt
-ready (verdict.Done n) b last kept after next = tt
-ready (verdict.DoneBefore n back) b last kept after next = tt
-ready (verdict.Trouble kind) b last kept after next = tt
-ready (verdict.Pass kind back) b last kept after next = next
+ready : (v : Verdict) (b : Bool) (last : Option Token) (after : IntScan)
+    → awaits after ≡ awaited_after v → Ready (number_want v b last) (Number after)
+ready verdict.Need true last after next = next
+ready verdict.Need false last after next = next
+ready (verdict.Ask q) b last after next = next
+ready (verdict.Sub phrase) b last after next = tt
+ready (verdict.Done n) b last after next = tt
+ready (verdict.DoneBefore n back) b last after next = tt
+ready (verdict.Trouble kind) b last after next = tt
+ready (verdict.Pass kind back) b last after next = next
 
 -- what the automaton answers to something taken
 pub record Answers (before after : IntScan) (x : scan.Taken) (v : Verdict) (b : Bool) : Type 0 where
@@ -69,11 +69,11 @@ pub record Answers (before after : IntScan) (x : scan.Taken) (v : Verdict) (b : 
   pub character : (taken : List scan.Taken) → NumberStands after taken → b ≡ wants_character taken
 
 -- what the phrase wants behind it
-wants_then : (before after : IntScan) (last : Option Token) (x : Taken) (v : Verdict) (b : Bool) → Answers before after (scanned x) v b
-    → (c : Context) (kind : Task) (taken : List Taken) → Stands (Number before last) c kind taken
+wants_then : (before after : IntScan) (x : Taken) (v : Verdict) (b : Bool) → Answers before after (scanned x) v b
+    → (c : Context) (kind : Task) (taken : List Taken) → Stands (Number before) c kind taken
     → number_want v b (last_token (x ∷ [])) ≡ wants c kind (taken ++ x ∷ [])
 unfolding wants
-wants_then before after last x v b answers c kind taken stands =
+wants_then before after x v b answers c kind taken stands =
     let all : List scan.Taken = map scanned taken ++ scanned x ∷ [] in
     let same : map scanned (taken ++ x ∷ []) ≡ all = map-append scanned taken (x ∷ []) in
     same_want v (NumberStands after all) b (wants_character all) (last_token (x ∷ [])) (answers.kept (map scanned taken) stands.1)
@@ -83,29 +83,29 @@ wants_then before after last x v b answers c kind taken stands =
     ∙ ap (number_want (whole_number (map scanned (taken ++ x ∷ []))) (wants_character (map scanned (taken ++ x ∷ [])))) (sym (last_of taken x))
     ∙ ap (λ k. wants c k (taken ++ x ∷ [])) (sym stands.0)
 
-stands_then : (before after : IntScan) (last : Option Token) (x : Taken) (v : Verdict) (b : Bool) → Answers before after (scanned x) v b
-    → (c : Context) (kind : Task) (taken : List Taken) → Stands (Number before last) c kind taken
-    → WhileOpen (number_want v b (last_token (x ∷ []))) (Stands (Number after (last_token (x ∷ []))) c kind (taken ++ x ∷ []))
-stands_then before after last x v b answers c kind taken stands =
+stands_then : (before after : IntScan) (x : Taken) (v : Verdict) (b : Bool) → Answers before after (scanned x) v b
+    → (c : Context) (kind : Task) (taken : List Taken) → Stands (Number before) c kind taken
+    → WhileOpen (number_want v b (last_token (x ∷ []))) (Stands (Number after) c kind (taken ++ x ∷ []))
+stands_then before after x v b answers c kind taken stands =
     let P : List scan.Taken → Type 0 = λ l. NumberStands after l in
     while_open v b (last_token (x ∷ [])) (NumberStands after (map scanned taken ++ scanned x ∷ []))
-    (Stands (Number after (last_token (x ∷ []))) c kind (taken ++ x ∷ []))
-    (λ s. (stands.0, subst P (sym (map-append scanned taken (x ∷ []))) s, sym (last_of taken x)))
+    (Stands (Number after) c kind (taken ++ x ∷ []))
+    (λ s. (stands.0, subst P (sym (map-append scanned taken (x ∷ []))) s))
     (answers.kept (map scanned taken) stands.1)
 
-takes_up : (before after : IntScan) (last : Option Token) (x : Taken) (v : Verdict) (b : Bool) → Answers before after (scanned x) v b
-    → TakesUp (Number before last) x (Number after (last_token (x ∷ []))) (number_want v b (last_token (x ∷ [])))
-takes_up before after last x v b answers = record {
-  wants = wants_then before after last x v b answers;
-  stands = stands_then before after last x v b answers;
-  ready = ready v b (last_token (x ∷ [])) (last_token (x ∷ [])) after answers.next;
+takes_up : (before after : IntScan) (x : Taken) (v : Verdict) (b : Bool) → Answers before after (scanned x) v b
+    → TakesUp (Number before) x (Number after) (number_want v b (last_token (x ∷ [])))
+takes_up before after x v b answers = record {
+  wants = wants_then before after x v b answers;
+  stands = stands_then before after x v b answers;
+  ready = ready v b (last_token (x ∷ [])) after answers.next;
 }
 
-pub number_takes_up : (before after : IntScan) (kept : Option Token) (x : Taken) (seen : scan.Taken) (v : Verdict) (b : Bool) (want : Want)
-    → Answers before after seen v b → seen ≡ scanned x → kept ≡ last_token (x ∷ []) → want ≡ number_want v b kept
-    → (last : Option Token) → TakesUp (Number before last) x (Number after kept) want
-number_takes_up before after kept x seen v b want answers sees keeps is last =
+pub number_takes_up : (before after : IntScan) (last : Option Token) (x : Taken) (seen : scan.Taken) (v : Verdict) (b : Bool) (want : Want)
+    → Answers before after seen v b → seen ≡ scanned x → last ≡ last_token (x ∷ []) → want ≡ number_want v b last
+    → TakesUp (Number before) x (Number after) want
+number_takes_up before after last x seen v b want answers sees keeps is =
     let A : scan.Taken → Type 0 = λ s. Answers before after s v b in
-    let T : Option Token → Type 0 = λ k. TakesUp (Number before last) x (Number after k) (number_want v b k) in
-    let W : Want → Type 0 = λ w. TakesUp (Number before last) x (Number after kept) w in
-    subst W (sym is) (subst T (sym keeps) (takes_up before after last x v b (subst A sees answers)))
+    let T : Option Token → Type 0 = λ k. TakesUp (Number before) x (Number after) (number_want v b k) in
+    let W : Want → Type 0 = λ w. TakesUp (Number before) x (Number after) w in
+    subst W (sym is) (subst T (sym keeps) (takes_up before after x v b (subst A sees answers)))

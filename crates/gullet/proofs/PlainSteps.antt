@@ -1,10 +1,8 @@
 -- A plain step takes something up.
-use Rattle.std.proofs.Common.{ℕ, ◌≡◌, true, List, [], ◌∷◌, ◌++◌, Option, Result, Ok, Err, IfOk, refl, sym, ◌∙◌, ap, append_assoc}
-use Rattle.tokens.specs.declared.token.Token.{Token}
-use Rattle.tokens.specs.declared.meaning.Macro.{Macro}
+use Rattle.std.proofs.Common.{ℕ, ◌≡◌, true, List, [], ◌∷◌, ◌++◌, Result, Ok, Err, IfOk, refl, sym, ◌∙◌, ap, append_assoc}
 use Rattle.conditionals.specs.Skipping.{Skipping}
-use Rattle.macro_args.specs.Scanning.{Scanning}
 use Rattle.scan_nums.specs.declared.int_scan.IntScan.{IntScan}
+use Rattle.gullet.specs.declared.calling.Parts.{Parts}
 use Rattle.gullet.specs.declared.context.Context.{Context}
 use Rattle.gullet.specs.declared.progress.Progress.{Progress}
 use Rattle.gullet.specs.declared.progress.Progress.TheVariants as progress
@@ -16,9 +14,9 @@ use Rattle.gullet.specs.Wants.{Taken, wants, token_of, meaning_of, told_of}
 
 -- a plain step takes what comes
 fits : (p : Progress) → is_plain p ≡ true → FitsToken p × FitsGot p × FitsWas p
-fits (progress.Number scan last) h = cc
+fits (progress.Number scan) h = cc
 fits (progress.Passing sought scan count) h = cc
-fits (progress.Call name called scan) h = cc
+fits (progress.Call call) h = cc
 fits _ h = (tt, tt, tt)
 
 pub plain_ready : (want : Want) (p : Progress) → is_plain p ≡ true → Ready want p
@@ -32,26 +30,26 @@ plain_ready (Wrong kind) p h = tt
 
 -- a step that takes what an inner phrase or an act told, and is of no number, is plain
 abbrev pub IsNoNumber : Progress → Type 0
-IsNoNumber p = (scan : IntScan) (last : Option Token) → p ≡ progress.Number scan last → ⊥
+IsNoNumber p = (scan : IntScan) → p ≡ progress.Number scan → ⊥
 
 pub got_is_plain : (p : Progress) → FitsGot p → IsNoNumber p → is_plain p ≡ true
-got_is_plain (progress.Number scan last) takes other = absurd (other scan last refl)
+got_is_plain (progress.Number scan) takes other = absurd (other scan refl)
 got_is_plain (progress.Passing sought scan count) takes other = absurd takes
-got_is_plain (progress.Call name called scan) takes other = absurd takes
+got_is_plain (progress.Call call) takes other = absurd takes
 got_is_plain _ takes other = refl
 
 pub was_is_plain : (p : Progress) → FitsWas p → IsNoNumber p → is_plain p ≡ true
-was_is_plain (progress.Number scan last) takes other = absurd (other scan last refl)
+was_is_plain (progress.Number scan) takes other = absurd (other scan refl)
 was_is_plain (progress.Passing sought scan count) takes other = absurd takes
-was_is_plain (progress.Call name called scan) takes other = absurd takes
+was_is_plain (progress.Call call) takes other = absurd takes
 was_is_plain _ takes other = refl
 
 -- a step that takes a token, and is of no number, no text that is passed over and no macro's call, is plain
 pub token_is_plain : (p : Progress) → IsNoNumber p → ((sought : ℕ) (scan : Skipping) (count : ℕ) → p ≡ progress.Passing sought scan count → ⊥)
-    → ((name : Token) (called : Macro) (scan : Scanning) → p ≡ progress.Call name called scan → ⊥) → is_plain p ≡ true
-token_is_plain (progress.Number scan last) number passing call = absurd (number scan last refl)
+    → ((call : Parts) → p ≡ progress.Call call → ⊥) → is_plain p ≡ true
+token_is_plain (progress.Number scan) number passing call = absurd (number scan refl)
 token_is_plain (progress.Passing sought scan count) number passing call = absurd (passing sought scan count refl)
-token_is_plain (progress.Call name called scan) number passing call = absurd (call name called scan refl)
+token_is_plain (progress.Call call) number passing not_call = absurd (not_call call refl)
 token_is_plain _ number passing call = refl
 
 while_open_along : (want : Want) (P Q : Type 0) → (P → Q) → WhileOpen want P → WhileOpen want Q
@@ -82,10 +80,10 @@ plain_takes_up before after x want plain is steps plain_after = record {
 }
 
 -- a plain step's answer
-pub step_takes_up : {E : Type 0} (before : Progress) (x : Taken) (result : Result (Progress × Want) E) → is_plain before ≡ true
-    → IfOk result (λ r. r.1 ≡ rest_behind before x [])
-    → IfOk result (λ r. WhileOpen r.1 (Steps before (token_of x) (meaning_of x) (told_of x) r.0))
-    → IfOk result (λ r. is_plain r.0 ≡ true)
-    → IfOk result (λ r. TakesUp before x r.0 r.1)
-step_takes_up before x (Ok r) plain is steps plain_after = plain_takes_up before r.0 x r.1 plain is steps plain_after
-step_takes_up before x (Err e) plain is steps plain_after = tt
+pub step_takes_up : {E : Type 0} (before after : Progress) (x : Taken) (result : Result Want E) → is_plain before ≡ true
+    → IfOk result (λ want. want ≡ rest_behind before x [])
+    → IfOk result (λ want. WhileOpen want (Steps before (token_of x) (meaning_of x) (told_of x) after))
+    → IfOk result (λ want. is_plain after ≡ true)
+    → IfOk result (λ want. TakesUp before x after want)
+step_takes_up before after x (Ok want) plain is steps plain_after = plain_takes_up before after x want plain is steps plain_after
+step_takes_up before after x (Err e) plain is steps plain_after = tt

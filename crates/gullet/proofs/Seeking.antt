@@ -1,15 +1,14 @@
 -- The loops of the calls from outside: what finishing from here comes to, finishing from the start comes to.
-use Rattle.std.specs.Prelude.{◌≡◌, refl, ℕ, ◌+◌, ◌<◌, Bool, true, false, if◌then◌else◌, Option, Some, None, Result, Ok, Err}
+use Rattle.std.specs.Prelude.{◌≡◌, refl, ℕ, ◌<◌, Bool, true, false, if◌then◌else◌, Option, Some, None, Result, Ok, Err}
 use Rattle.std.proofs.Common.{zero, suc, ap, sym, ◌∙◌, subst, arith}
 use Rattle.tokens.specs.declared.stop.Stop.{Stop}
 use Rattle.tokens.specs.declared.stop.Stop.TheVariants.{Trouble, Capacity, Spent, ReadFault, WriteFault, OutOfMemory}
 use Rattle.tokens.specs.declared.token.Token.{Token}
 use Rattle.pending.specs.declared.pending.Event.{Event}
-use Rattle.pending.specs.declared.pending.Event.TheVariants as event
 use Rattle.asking.specs.Did.{Did, Does, Ended}
 use Rattle.asking.specs.Did as did
-use Rattle.asking.specs.Meaning.{Meant, walk, ◌>>=◌}
-use Rattle.asking.specs.Seen.{Outside, Seen, DoesBeside, is_prefix}
+use Rattle.asking.specs.Meaning.{Meant, ◌>>=◌}
+use Rattle.asking.specs.Seen.{Outside, Seen, DoesBeside}
 use Rattle.asking.specs.Asked.{cut_later, prefix_same}
 use Rattle.asking.specs.Leads.{told, does_then, does_end, does_still}
 use Rattle.gullet.specs.declared.next.Sought.{Sought}

@@ -155,6 +155,8 @@ glue_of (value.Number n) zero = zero
 glue_of (value.Glue g) zero = g
 glue_of (value.Tokens list) zero = zero
 glue_of (value.Meaning m) zero = zero
+glue_of (value.Boxed b) zero = zero
+glue_of (value.Table ns) zero = zero
 
 -- an entry as a number with its kind
 abbrev pub as_number : RegKind → Value → Number
@@ -162,18 +164,26 @@ as_number Count (value.Number n) = number.Int n
 as_number Count (value.Glue g) = number.Int (pos 0)
 as_number Count (value.Tokens list) = number.Int (pos 0)
 as_number Count (value.Meaning m) = number.Int (pos 0)
+as_number Count (value.Boxed b) = number.Int (pos 0)
+as_number Count (value.Table ns) = number.Int (pos 0)
 as_number Dimen (value.Number n) = number.Dimen n
 as_number Dimen (value.Glue g) = number.Int (pos 0)
 as_number Dimen (value.Tokens list) = number.Int (pos 0)
 as_number Dimen (value.Meaning m) = number.Int (pos 0)
+as_number Dimen (value.Boxed b) = number.Int (pos 0)
+as_number Dimen (value.Table ns) = number.Int (pos 0)
 as_number Skip (value.Number n) = number.Int (pos 0)
 as_number Skip (value.Glue g) = number.Glue g
 as_number Skip (value.Tokens list) = number.Int (pos 0)
 as_number Skip (value.Meaning m) = number.Int (pos 0)
+as_number Skip (value.Boxed b) = number.Int (pos 0)
+as_number Skip (value.Table ns) = number.Int (pos 0)
 as_number Muskip (value.Number n) = number.Int (pos 0)
 as_number Muskip (value.Glue g) = number.MuGlue g
 as_number Muskip (value.Tokens list) = number.Int (pos 0)
 as_number Muskip (value.Meaning m) = number.Int (pos 0)
+as_number Muskip (value.Boxed b) = number.Int (pos 0)
+as_number Muskip (value.Table ns) = number.Int (pos 0)
 as_number RegKind.Box v = number.Int (pos 0)
 as_number Toks v = number.Int (pos 0)
 
@@ -254,6 +264,8 @@ list_of (value.Number n) = []
 list_of (value.Glue g) = []
 list_of (value.Tokens list) = list
 list_of (value.Meaning m) = []
+list_of (value.Boxed b) = []
+list_of (value.Table ns) = []
 
 abbrev pub with_held : Key → State → State
 with_held k s = record s { pending = with_list (list_of (s.copies.last k).value) s.pending }
@@ -267,6 +279,21 @@ put_register n s =
 -- the list of a token parameter, by the code of its name; no other code is one
 abbrev pub with_parameter_list : ℕ → State → State
 with_parameter_list code s = if is_from_to output_code errhelp_code code then with_held (key.Parameter (code - pretolerance_code)) s else s
+
+-- the same lists told, and not put in front (tex.web 465)
+abbrev pub list_at : Copies → Key → List Token
+list_at c k = list_of (c.last k).value
+
+unfoldable pub tell_register : ℤ → State → Did State Told
+tell_register n s =
+    if is_register s.copies.extended n then Ok (told.Tokens (list_at s.copies (key.Register Toks (place_of n))), s)
+    else pass_register n s >>= (λ r. Ok (told.Tokens (list_at r.1.copies (key.Register Toks 0)), r.1))
+
+abbrev pub parameter_list : Copies → ℕ → List Token
+parameter_list c code = if is_from_to output_code errhelp_code code then list_at c (key.Parameter (code - pretolerance_code)) else []
+
+unfoldable pub tell_parameter : ℕ → State → Did State Told
+tell_parameter code s = Ok (told.Tokens (parameter_list s.copies code), s)
 
 -- a token that may not stand behind \the (tex.web 428)
 unfoldable pub cant_use : Token → State → Did State Told
@@ -368,6 +395,8 @@ is_undefined (value.Meaning (meaning.CharDef byte)) = false
 is_undefined (value.Meaning (meaning.MathCharDef n)) = false
 is_undefined (value.Meaning (meaning.Register kind n)) = false
 is_undefined (value.Meaning (meaning.Font font)) = false
+is_undefined (value.Boxed b) = false
+is_undefined (value.Table ns) = false
 
 -- a name without meaning becomes \relax in this group (tex.web 372)
 abbrev pub with_meaning : Key → Copies → Copies
@@ -474,6 +503,11 @@ abbrev pub IsDone : {E : Type 0} → Result (Unit {0}) E → Result Told Stop �
 IsDone (Ok done) result = result ≡ Ok told.Done
 IsDone (Err e) result = result ≡ Err OutOfMemory
 
+-- a call that tells a list, if there was memory for it
+abbrev pub TellsList : {E : Type 0} → Result (List Token) E → Result Told Stop → Type 0
+TellsList (Ok list) result = result ≡ Ok (told.Tokens list)
+TellsList (Err e) result = result ≡ Err OutOfMemory
+
 abbrev pub passing : Kind → Option Token → State → Did State Told
 passing kind back s = pass kind s >>= (λ r. told_done (with_some back r.1))
 
@@ -559,10 +593,13 @@ perform o (act.Look q) s = still (look_by q.code q.index s)
 perform o (act.LookNumbered code n) s = still (look_numbered code (first_number n) s)
 perform o (act.PutRegister n) s = still (put_register (first_number n) s)
 perform o (act.PutParameter code) s = still (Ok (told.Done, with_parameter_list code s))
+perform o (act.TellRegister n) s = still (tell_register (first_number n) s)
+perform o (act.TellParameter code) s = still (tell_parameter code s)
 perform o (act.CantUse t) s = still (cant_use t s)
 perform o (act.Digits numerals n) s = still (told_done (with_digits numerals n s))
 perform o (act.Text body arguments) s = still (told_done (with_text body arguments s))
 perform o (act.Refuse name refusal) s = still (refused name refusal s)
+perform o act.Full s = still (Err (Capacity Items, s))
 perform o (act.Open kind) s = still (open_condition kind s)
 perform o (act.Choose level) s = still (told_done (with_first_branch level s))
 perform o (act.Leave word level) s = still (leave word level s)

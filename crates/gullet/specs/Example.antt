@@ -127,7 +127,7 @@ pub record WorkedExpansions : Type 0 where
   pub meaning : Leaves (task.Simple simple.MeaningText) (other 43 ∷ [])
       (other 116 ∷ other 104 ∷ other 101 ∷ space ∷ other 99 ∷ other 104 ∷ other 97 ∷ other 114 ∷ other 97 ∷ other 99 ∷ other 116 ∷ other 101 ∷ other 114 ∷ space ∷ other 43 ∷ []) 1
   -- \the\catcode65 x
-  pub code : Leaves task.The (named catcode_code ∷ other 54 ∷ other 53 ∷ space ∷ letter 120 ∷ []) (other 49 ∷ other 49 ∷ letter 120 ∷ []) 4
+  pub code : Leaves (task.The false) (named catcode_code ∷ other 54 ∷ other 53 ∷ space ∷ letter 120 ∷ []) (other 49 ∷ other 49 ∷ letter 120 ∷ []) 4
   -- the macro on `xy.z`
   pub call : Leaves (task.Call (named relax_code) bracketed) (letter 120 ∷ letter 121 ∷ other 46 ∷ letter 122 ∷ [])
       (other 91 ∷ letter 120 ∷ letter 121 ∷ other 93 ∷ letter 122 ∷ []) 3

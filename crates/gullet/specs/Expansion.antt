@@ -33,14 +33,14 @@ use Rattle.gullet.specs.Wants.{Taken, Tok, Got, Was, wants}
 
 -- ---- what stands around a phrase
 
--- the phrases of which 10,000 may be unfinished: numbers, names that are built, and conditions that are decided
+-- the phrases of which 10,000 may be unfinished: numbers, texts, names that are built, and conditions that are decided
 abbrev pub is_counted : Task → Bool
 is_counted task.WholeNumber = true
 is_counted (task.QuantityValue q) = false
 is_counted (task.Undefined t) = false
 is_counted (task.Call name called) = false
 is_counted task.ExpandAfter = false
-is_counted task.The = false
+is_counted (task.The straight) = false
 is_counted (task.NumberText numerals) = false
 is_counted (task.If asks) = true
 is_counted (task.PassOver sought) = false
@@ -48,6 +48,7 @@ is_counted (task.BranchEnd t word) = false
 is_counted task.NameText = true
 is_counted (task.Input t) = false
 is_counted task.FileName = false
+is_counted (task.Text expanded) = true
 is_counted (task.Simple thing) = false
 
 abbrev pub is_file_name : Task → Bool
@@ -56,7 +57,7 @@ is_file_name (task.QuantityValue q) = false
 is_file_name (task.Undefined t) = false
 is_file_name (task.Call name called) = false
 is_file_name task.ExpandAfter = false
-is_file_name task.The = false
+is_file_name (task.The straight) = false
 is_file_name (task.NumberText numerals) = false
 is_file_name (task.If asks) = false
 is_file_name (task.PassOver sought) = false
@@ -64,9 +65,10 @@ is_file_name (task.BranchEnd t word) = false
 is_file_name task.NameText = false
 is_file_name (task.Input t) = false
 is_file_name task.FileName = true
+is_file_name (task.Text expanded) = false
 is_file_name (task.Simple thing) = false
 
--- in the arguments of a macro and in a text that is passed over no file may end, and no outer macro may stand (The
+-- in the arguments of a macro, in a text and in one that is passed over no file may end, and no outer macro may stand (The
 -- TeXbook, page 206; tex.web 336)
 abbrev pub is_closed : Task → Bool
 is_closed task.WholeNumber = false
@@ -74,7 +76,7 @@ is_closed (task.QuantityValue q) = false
 is_closed (task.Undefined t) = false
 is_closed (task.Call name called) = true
 is_closed task.ExpandAfter = false
-is_closed task.The = false
+is_closed (task.The straight) = false
 is_closed (task.NumberText numerals) = false
 is_closed (task.If asks) = false
 is_closed (task.PassOver sought) = true
@@ -82,6 +84,7 @@ is_closed (task.BranchEnd t word) = false
 is_closed task.NameText = false
 is_closed (task.Input t) = false
 is_closed task.FileName = false
+is_closed (task.Text expanded) = true
 is_closed (task.Simple thing) = false
 
 -- nothing stands around

@@ -1,5 +1,5 @@
 -- How a font is shown: its name, and its size where that isn't the design size (The TeXbook, page 213; tex.web 234 and 1261).
-use Rattle.std.specs.Prelude.{ℕ, ℤ, if◌then◌else◌, List, [], ◌++◌, Option, Some, None, slice_get, codes}
+use Rattle.std.specs.Prelude.{ℕ, if◌then◌else◌, List, [], ◌++◌, Option, Some, None, slice_get, codes}
 use Rattle.std.specs.Ordering.{int_eq}
 use Rattle.scaled.specs.ArithmeticDecimals.{points_text}
 use Rattle.tfm.specs.FontMetrics.{FontMetrics}

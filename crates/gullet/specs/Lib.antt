@@ -12,6 +12,7 @@ pub mod Wants
 pub mod Expansion
 pub mod Turned
 pub mod Next
+pub mod Texts
 pub mod Laws
 pub mod Progress
 pub mod Example

@@ -91,6 +91,8 @@ as_meaning (value.Number n) = meaning.Undefined
 as_meaning (value.Glue g) = meaning.Undefined
 as_meaning (value.Tokens list) = meaning.Undefined
 as_meaning (value.Meaning m) = m
+as_meaning (value.Boxed b) = meaning.Undefined
+as_meaning (value.Table ns) = meaning.Undefined
 
 abbrev pub meaning_at : Copies → Key → Meaning
 meaning_at c k = known (as_meaning (c.last k).value)
@@ -113,7 +115,7 @@ as_task None (Some thing) = Some (task.Simple thing)
 abbrev pub expansion_of_code : Token → ℕ → Option Task
 expansion_of_code t code =
     if code == input_code then Some (task.Input t)
-    else if code == the_code then Some task.The
+    else if code == the_code then Some (task.The false)
     else if code == expandafter_code then Some task.ExpandAfter
     else if code == csname_code then Some task.NameText
     else if code == number_code then Some (task.NumberText numerals.Decimal)

@@ -9,15 +9,12 @@ use Rattle.tokens.specs.declared.token.Token.TheVariants.{Frozen}
 use Rattle.pending.specs.declared.pending.Event.{Event}
 use Rattle.pending.specs.declared.pending.Event.TheVariants as event
 use Rattle.scan_nums.specs.declared.number.Number.{Number}
-use Rattle.asking.specs.Did.{Did}
-use Rattle.asking.specs.Did as did
 use Rattle.asking.specs.Meaning.{Meant, still, ◌>>=◌}
 use Rattle.asking.specs.Seen.{Outside}
 use Rattle.gullet.specs.declared.next.Sought.{Sought}
 use Rattle.gullet.specs.declared.next.Sought.TheVariants as sought
 use Rattle.gullet.specs.declared.task.Task.{Task}
 use Rattle.gullet.specs.declared.task.Task.TheVariants as task
-use Rattle.gullet.specs.declared.task.Told.{Told}
 use Rattle.gullet.specs.Events.{take_event}
 use Rattle.gullet.specs.Expansion.{outcome, outermost, most_turns}
 use Rattle.gullet.specs.Meanings.{meaning_of, taken_meaning, expansion}

@@ -15,6 +15,8 @@ number_of (value.Number n) = n
 number_of (value.Glue g) = pos 0
 number_of (value.Tokens list) = pos 0
 number_of (value.Meaning m) = pos 0
+number_of (value.Boxed b) = pos 0
+number_of (value.Table ns) = pos 0
 
 -- the number that an entry has now
 abbrev pub number_at : Copies → Key → ℤ

@@ -9,6 +9,7 @@ use Rattle.scan_nums.specs.Awaited.{NextToken, Answer, Resumption}
 use Rattle.scan_nums.specs.IntScan.{awaits, Stands as NumberStands}
 use Rattle.conditionals.specs.Skipping.{StandsFor}
 use Rattle.macro_args.specs.Scanning.{StandsFor as ArgumentsStand}
+use Rattle.gullet.specs.declared.calling.Parts.{Parts}
 use Rattle.gullet.specs.declared.context.Context.{Context}
 use Rattle.gullet.specs.declared.progress.Progress.{Progress}
 use Rattle.gullet.specs.declared.progress.Progress.TheVariants as progress
@@ -19,19 +20,19 @@ use Rattle.gullet.specs.declared.task.Told.TheVariants as told
 use Rattle.gullet.specs.declared.task.Act.TheVariants as act
 use Rattle.gullet.specs.declared.task.Want.{Want}
 use Rattle.gullet.specs.declared.task.Want.TheVariants.{Raw, Expanded, Character, Act, Inner, Gives, Wrong}
-use Rattle.gullet.specs.Wants.{Taken, wants, done, only, told_of, token_of, meaning_of, number_told, level_told, word_told, goes_on, holds_told, behind_first, behind_second, second_want, the_value, register_list_want, digits_want, register_numbered, test_want, is_odd, first_by, second_by, second_want_of, glyph_if, alike, case_of, cases_before, cases_left_want, cases_by, cases_want, relation_want, false_want, to_fi_want, name_from, file_want, file_from, named_want, left_want, by_relation, relation_of, decided, holds, name_by, byte_of, file_by, letter_of, scanned, last_token, matching, tokens_in, was_done}
+use Rattle.gullet.specs.Wants.{Taken, wants, done, only, told_of, token_of, meaning_of, number_told, level_told, word_told, goes_on, holds_told, behind_first, behind_second, second_want, the_value, register_list_want, digits_want, register_numbered, test_want, is_odd, first_by, second_by, second_want_of, glyph_if, alike, case_of, cases_before, cases_left_want, cases_by, cases_want, relation_want, false_want, to_fi_want, name_from, file_want, file_from, named_want, left_want, by_relation, relation_of, decided, holds, name_by, byte_of, file_by, letter_of, scanned, matching, tokens_in, was_done, Ahead, text_want, text_opened, is_filler, gathered, gathered_by, expansion_in, longer, tokens_told}
 
 -- what the phrase wants where a token with this meaning is taken next, or this is told, and then these are taken
 abbrev pub rest : Progress → Token → Meaning → Told → List Taken → Want
-rest (progress.Number scan last) t m v xs = Raw
+rest (progress.Number scan) t m v xs = Raw
 rest (progress.Passing sought scan count) t m v xs = Raw
-rest (progress.Call name called scan) t m v xs = Raw
+rest (progress.Call call) t m v xs = Raw
 rest (progress.Finishing back) t m v xs = Gives told.Done back
 rest progress.Telling t m v xs = Gives v None
 rest progress.ExpandFirst t m v xs = behind_first t xs
 rest (progress.ExpandSecond first) t m v xs = behind_second first (second_want t m) xs
-rest progress.Value t m v xs = the_value t m xs
-rest progress.ListNumber t m v xs = register_list_want v xs
+rest (progress.Value straight) t m v xs = the_value straight t m xs
+rest (progress.ListNumber straight) t m v xs = register_list_want straight (number_told v) xs
 rest (progress.Digits numerals) t m v xs = digits_want numerals v xs
 rest (progress.RegisterNumber code) t m v xs = register_numbered code v xs
 rest (progress.Opened asks) t m v xs = test_want asks (level_told v) xs
@@ -58,6 +59,11 @@ rest progress.FileStart t m v xs =
     if is_space m then file_want xs else file_by (λ longer. file_from longer xs) [] (letter_of m) t
 rest (progress.File text) t m v xs = file_by (λ longer. file_from longer xs) text.items (letter_of m) t
 rest progress.Named t m v xs = named_want v xs
+rest (progress.TextStart expanded) t m v xs =
+    if is_filler m then text_want (gathered expanded Ahead 0 []) xs else text_opened (gathered expanded Ahead 0 [] xs) m
+rest (progress.Gathering text) t m v xs =
+    gathered_by (λ place inside more. gathered text.expanded place inside more xs) text.tokens.items text.depth t (expansion_in text.expanded t m) xs
+rest (progress.Inserting text) t m v xs = longer (λ more. gathered text.expanded Ahead text.depth more xs) text.tokens.items (tokens_told v) xs
 
 abbrev pub rest_behind : Progress → Taken → List Taken → Want
 rest_behind p x xs = rest p (token_of x) (meaning_of x) (told_of x) xs
@@ -68,18 +74,17 @@ Follows p c kind taken = (x : Taken) (xs : List Taken) → wants c kind (taken +
 
 -- a phrase was read so far when just this was taken
 abbrev pub Stands : Progress → Context → Task → List Taken → Type 0
-Stands (progress.Number scan last) c kind taken =
-    (kind ≡ task.WholeNumber) × NumberStands scan (map scanned taken) × (last ≡ last_token taken)
+Stands (progress.Number scan) c kind taken = (kind ≡ task.WholeNumber) × NumberStands scan (map scanned taken)
 Stands (progress.Passing sought scan count) c kind taken =
     (kind ≡ task.PassOver sought) × StandsFor sought (map meaning_of taken) scan × (count ≡ length taken)
-Stands (progress.Call name called scan) c kind taken =
-    (kind ≡ task.Call name called) × ArgumentsStand (matching called) called.params (tokens_in taken) scan × (was_done taken ≡ false)
+Stands (progress.Call call) c kind taken =
+    (kind ≡ task.Call call.name call.called) × ArgumentsStand (matching call.called) call.called.params (tokens_in taken) call.scan × (was_done taken ≡ false)
 Stands (progress.Finishing back) c kind taken = Follows (progress.Finishing back) c kind taken
 Stands progress.Telling c kind taken = Follows progress.Telling c kind taken
 Stands progress.ExpandFirst c kind taken = Follows progress.ExpandFirst c kind taken
 Stands (progress.ExpandSecond first) c kind taken = Follows (progress.ExpandSecond first) c kind taken
-Stands progress.Value c kind taken = Follows progress.Value c kind taken
-Stands progress.ListNumber c kind taken = Follows progress.ListNumber c kind taken
+Stands (progress.Value straight) c kind taken = Follows (progress.Value straight) c kind taken
+Stands (progress.ListNumber straight) c kind taken = Follows (progress.ListNumber straight) c kind taken
 Stands (progress.Digits numerals) c kind taken = Follows (progress.Digits numerals) c kind taken
 Stands (progress.RegisterNumber code) c kind taken = Follows (progress.RegisterNumber code) c kind taken
 Stands (progress.Opened asks) c kind taken = Follows (progress.Opened asks) c kind taken
@@ -103,6 +108,9 @@ Stands (progress.Name text) c kind taken = Follows (progress.Name text) c kind t
 Stands progress.FileStart c kind taken = Follows progress.FileStart c kind taken
 Stands (progress.File text) c kind taken = Follows (progress.File text) c kind taken
 Stands progress.Named c kind taken = Follows progress.Named c kind taken
+Stands (progress.TextStart expanded) c kind taken = Follows (progress.TextStart expanded) c kind taken
+Stands (progress.Gathering text) c kind taken = Follows (progress.Gathering text) c kind taken
+Stands (progress.Inserting text) c kind taken = Follows (progress.Inserting text) c kind taken
 
 -- a fact that holds unless the phrase is at its end
 abbrev pub WhileOpen : Want → Type 0 → Type 0
@@ -119,15 +127,15 @@ WhileOpen (Wrong kind) P = Unit {0}
 -- a number waits for what its grammar asks for; a text that is passed over and a macro's call take tokens alone; any other
 -- step takes what comes
 abbrev pub FitsToken : Progress → Type 0
-FitsToken (progress.Number scan last) = awaits scan ≡ NextToken
+FitsToken (progress.Number scan) = awaits scan ≡ NextToken
 FitsToken (progress.Passing sought scan count) = Unit {0}
-FitsToken (progress.Call name called scan) = Unit {0}
+FitsToken (progress.Call call) = Unit {0}
 FitsToken (progress.Finishing back) = Unit {0}
 FitsToken progress.Telling = Unit {0}
 FitsToken progress.ExpandFirst = Unit {0}
 FitsToken (progress.ExpandSecond first) = Unit {0}
-FitsToken progress.Value = Unit {0}
-FitsToken progress.ListNumber = Unit {0}
+FitsToken (progress.Value straight) = Unit {0}
+FitsToken (progress.ListNumber straight) = Unit {0}
 FitsToken (progress.Digits numerals) = Unit {0}
 FitsToken (progress.RegisterNumber code) = Unit {0}
 FitsToken (progress.Opened asks) = Unit {0}
@@ -151,17 +159,20 @@ FitsToken (progress.Name text) = Unit {0}
 FitsToken progress.FileStart = Unit {0}
 FitsToken (progress.File text) = Unit {0}
 FitsToken progress.Named = Unit {0}
+FitsToken (progress.TextStart expanded) = Unit {0}
+FitsToken (progress.Gathering text) = Unit {0}
+FitsToken (progress.Inserting text) = Unit {0}
 
 abbrev pub FitsGot : Progress → Type 0
-FitsGot (progress.Number scan last) = awaits scan ≡ Answer
+FitsGot (progress.Number scan) = awaits scan ≡ Answer
 FitsGot (progress.Passing sought scan count) = ⊥
-FitsGot (progress.Call name called scan) = ⊥
+FitsGot (progress.Call call) = ⊥
 FitsGot (progress.Finishing back) = Unit {0}
 FitsGot progress.Telling = Unit {0}
 FitsGot progress.ExpandFirst = Unit {0}
 FitsGot (progress.ExpandSecond first) = Unit {0}
-FitsGot progress.Value = Unit {0}
-FitsGot progress.ListNumber = Unit {0}
+FitsGot (progress.Value straight) = Unit {0}
+FitsGot (progress.ListNumber straight) = Unit {0}
 FitsGot (progress.Digits numerals) = Unit {0}
 FitsGot (progress.RegisterNumber code) = Unit {0}
 FitsGot (progress.Opened asks) = Unit {0}
@@ -185,17 +196,20 @@ FitsGot (progress.Name text) = Unit {0}
 FitsGot progress.FileStart = Unit {0}
 FitsGot (progress.File text) = Unit {0}
 FitsGot progress.Named = Unit {0}
+FitsGot (progress.TextStart expanded) = Unit {0}
+FitsGot (progress.Gathering text) = Unit {0}
+FitsGot (progress.Inserting text) = Unit {0}
 
 abbrev pub FitsWas : Progress → Type 0
-FitsWas (progress.Number scan last) = awaits scan ≡ Resumption
+FitsWas (progress.Number scan) = awaits scan ≡ Resumption
 FitsWas (progress.Passing sought scan count) = ⊥
-FitsWas (progress.Call name called scan) = ⊥
+FitsWas (progress.Call call) = ⊥
 FitsWas (progress.Finishing back) = Unit {0}
 FitsWas progress.Telling = Unit {0}
 FitsWas progress.ExpandFirst = Unit {0}
 FitsWas (progress.ExpandSecond first) = Unit {0}
-FitsWas progress.Value = Unit {0}
-FitsWas progress.ListNumber = Unit {0}
+FitsWas (progress.Value straight) = Unit {0}
+FitsWas (progress.ListNumber straight) = Unit {0}
 FitsWas (progress.Digits numerals) = Unit {0}
 FitsWas (progress.RegisterNumber code) = Unit {0}
 FitsWas (progress.Opened asks) = Unit {0}
@@ -219,6 +233,13 @@ FitsWas (progress.Name text) = Unit {0}
 FitsWas progress.FileStart = Unit {0}
 FitsWas (progress.File text) = Unit {0}
 FitsWas progress.Named = Unit {0}
+FitsWas (progress.TextStart expanded) = Unit {0}
+FitsWas (progress.Gathering text) = Unit {0}
+FitsWas (progress.Inserting text) = Unit {0}
+
+-- a macro's call is read
+abbrev pub IsCall : Progress → Type 0
+IsCall p = (call : Parts) × (p ≡ progress.Call call)
 
 -- what is taken next is something that the step waits for
 abbrev pub Ready : Want → Progress → Type 0
@@ -243,15 +264,15 @@ Steps before t m v after = (x : Taken) (xs : List Taken) → rest before t m v (
 
 -- a step other than of a number, of a text that is passed over and of a macro's call
 abbrev pub is_plain : Progress → Bool
-is_plain (progress.Number scan last) = false
+is_plain (progress.Number scan) = false
 is_plain (progress.Passing sought scan count) = false
-is_plain (progress.Call name called scan) = false
+is_plain (progress.Call call) = false
 is_plain (progress.Finishing back) = true
 is_plain progress.Telling = true
 is_plain progress.ExpandFirst = true
 is_plain (progress.ExpandSecond first) = true
-is_plain progress.Value = true
-is_plain progress.ListNumber = true
+is_plain (progress.Value straight) = true
+is_plain (progress.ListNumber straight) = true
 is_plain (progress.Digits numerals) = true
 is_plain (progress.RegisterNumber code) = true
 is_plain (progress.Opened asks) = true
@@ -275,16 +296,19 @@ is_plain (progress.Name text) = true
 is_plain progress.FileStart = true
 is_plain (progress.File text) = true
 is_plain progress.Named = true
+is_plain (progress.TextStart expanded) = true
+is_plain (progress.Gathering text) = true
+is_plain (progress.Inserting text) = true
 
 -- a plain step that follows stands
 pub stands-plain : (p : Progress) (c : Context) (kind : Task) (taken : List Taken) → is_plain p ≡ true → Follows p c kind taken → Stands p c kind taken
-stands-plain (progress.Number scan last) c kind taken h f = cc
+stands-plain (progress.Number scan) c kind taken h f = cc
 stands-plain (progress.Passing sought scan count) c kind taken h f = cc
-stands-plain (progress.Call name called scan) c kind taken h f = cc
+stands-plain (progress.Call call) c kind taken h f = cc
 stands-plain _ c kind taken h f = f
 
 pub follows-plain : (p : Progress) (c : Context) (kind : Task) (taken : List Taken) → is_plain p ≡ true → Stands p c kind taken → Follows p c kind taken
-follows-plain (progress.Number scan last) c kind taken h f = cc
+follows-plain (progress.Number scan) c kind taken h f = cc
 follows-plain (progress.Passing sought scan count) c kind taken h f = cc
-follows-plain (progress.Call name called scan) c kind taken h f = cc
+follows-plain (progress.Call call) c kind taken h f = cc
 follows-plain _ c kind taken h f = f

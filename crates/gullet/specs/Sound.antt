@@ -90,6 +90,8 @@ IsSoundValue k (value.Number n) = IsAboveLowest n
 IsSoundValue k (value.Glue g) = IsNegatableGlue g
 IsSoundValue k (value.Tokens list) = AreSoundTokens k list
 IsSoundValue k (value.Meaning m) = IsSoundMeaning k m
+IsSoundValue k (value.Boxed b) = Unit {0}
+IsSoundValue k (value.Table ns) = Unit {0}
 
 -- the number of a font that is there
 abbrev pub IsFont : Known → ℤ → Type 0
@@ -106,6 +108,8 @@ IsInRange k (key.Name id) v = Unit {0}
 IsInRange k (key.Active byte) v = Unit {0}
 IsInRange k key.CurrentFont v = IsFont k (number_of v)
 IsInRange k (key.Family size number) v = IsFont k (number_of v)
+IsInRange k key.Shape v = Unit {0}
+IsInRange k (key.Penalties array) v = Unit {0}
 
 -- a value in its entry
 pub record IsSoundAt (k : Known) (e : Key) (v : Value) : Type 0 where
@@ -121,6 +125,8 @@ IsKnownKey k (key.Name id) = id.0 < k.names
 IsKnownKey k (key.Active byte) = Unit {0}
 IsKnownKey k key.CurrentFont = Unit {0}
 IsKnownKey k (key.Family size number) = Unit {0}
+IsKnownKey k key.Shape = Unit {0}
+IsKnownKey k (key.Penalties array) = Unit {0}
 
 -- nothing was ever assigned
 abbrev pub untouched : Entry Value

@@ -2,7 +2,6 @@
 use Rattle.std.specs.Prelude.{refl, ℕ, ℤ, pos, ◌<◌, ◌-◌, ◌==◌, nat_lt, nat_le, min, Bool, true, List, [], ◌∷◌, map, length, slice_index_or, codes, Option, Some, None, Result, Ok, Err}
 use Rattle.std.specs.List.{AllByRecursion}
 use Rattle.std.proofs.Common.{zero, suc, arith}
-use Rattle.scan_nums.specs.declared.number.Number.{Number}
 use Rattle.scan_nums.specs.Number.{first_number, IsAboveLowest, IsNegatable}
 use Rattle.scan_nums.specs.Starts.{is_from_to}
 use Rattle.tokens.specs.Codes.{pretolerance_code, errorcontextlines_code, output_code, errhelp_code, inputlineno_code, relax_code}
@@ -52,7 +51,6 @@ use Rattle.gullet.specs.Report.{file_begun}
 use Rattle.gullet.specs.RawToken.{one_token}
 use Rattle.gullet.specs.SoundRaw.{one_token_kept}
 use Rattle.gullet.specs.State.{State}
-use Rattle.gullet.specs.Wants.{number_told}
 use Rattle.gullet.specs.Troubles.{pass, passed_over, pass_undefined}
 use Rattle.gullet.specs.Sound.{Known, IsSoundBeside, IsSoundToken, AreSoundTokens, IsSoundSome, IsSoundValue, AreSoundCopies, IsSoundItem, IsSound, known_of}
 use Rattle.gullet.specs.SoundPhrases.{IsSoundTold, IsSoundAct}
@@ -181,7 +179,14 @@ undefined_kept t s h = done_kept s h _ (pass_kept _ s h)
 
 -- what is told is a number that has a negative
 abbrev pub TellsNegatable : Known → Told → Type 0
-TellsNegatable k tells = IsNegatable (number_told tells)
+TellsNegatable k told.Done = ⊥
+TellsNegatable k (told.Number n) = IsNegatable n
+TellsNegatable k (told.Word word) = ⊥
+TellsNegatable k (told.Level level) = ⊥
+TellsNegatable k told.GoOn = ⊥
+TellsNegatable k (told.Text text) = ⊥
+TellsNegatable k (told.Holds b) = ⊥
+TellsNegatable k (told.Tokens tokens) = ⊥
 
 module _ (k : Known) where
   number_of_sound : (v : Value) → IsSoundValue k v → IsAboveLowest (number_of v)
@@ -189,24 +194,34 @@ module _ (k : Known) where
   number_of_sound (value.Glue g) h = above_lowest 0
   number_of_sound (value.Tokens list) h = above_lowest 0
   number_of_sound (value.Meaning m) h = above_lowest 0
+  number_of_sound (value.Boxed b) h = above_lowest 0
+  number_of_sound (value.Table ns) h = above_lowest 0
 
   as_number_sound : (kind : RegKind) (v : Value) → IsSoundValue k v → IsNegatable (Acts.as_number kind v)
   as_number_sound Count (value.Number n) h = h
   as_number_sound Count (value.Glue g) h = above_lowest 0
   as_number_sound Count (value.Tokens list) h = above_lowest 0
   as_number_sound Count (value.Meaning m) h = above_lowest 0
+  as_number_sound Count (value.Boxed b) h = above_lowest 0
+  as_number_sound Count (value.Table ns) h = above_lowest 0
   as_number_sound Dimen (value.Number n) h = h
   as_number_sound Dimen (value.Glue g) h = above_lowest 0
   as_number_sound Dimen (value.Tokens list) h = above_lowest 0
   as_number_sound Dimen (value.Meaning m) h = above_lowest 0
+  as_number_sound Dimen (value.Boxed b) h = above_lowest 0
+  as_number_sound Dimen (value.Table ns) h = above_lowest 0
   as_number_sound Skip (value.Number n) h = above_lowest 0
   as_number_sound Skip (value.Glue g) h = h
   as_number_sound Skip (value.Tokens list) h = above_lowest 0
   as_number_sound Skip (value.Meaning m) h = above_lowest 0
+  as_number_sound Skip (value.Boxed b) h = above_lowest 0
+  as_number_sound Skip (value.Table ns) h = above_lowest 0
   as_number_sound Muskip (value.Number n) h = above_lowest 0
   as_number_sound Muskip (value.Glue g) h = h
   as_number_sound Muskip (value.Tokens list) h = above_lowest 0
   as_number_sound Muskip (value.Meaning m) h = above_lowest 0
+  as_number_sound Muskip (value.Boxed b) h = above_lowest 0
+  as_number_sound Muskip (value.Table ns) h = above_lowest 0
   as_number_sound Box v h = above_lowest 0
   as_number_sound Toks v h = above_lowest 0
 
@@ -247,7 +262,14 @@ numbered_kept code n s h =
     (register_kept code n s h)
 
 told_kept : (s : State) (d : Did State Told) → Keeps TellsNegatable s d → Keeps IsSoundTold s d
-told_kept s (Ok (tells, t)) h = (h.0, tt)
+told_kept s (Ok (told.Done, t)) h = absurd h.1
+told_kept s (Ok (told.Number n, t)) h = (h.0, tt)
+told_kept s (Ok (told.Word word, t)) h = absurd h.1
+told_kept s (Ok (told.Level level, t)) h = absurd h.1
+told_kept s (Ok (told.GoOn, t)) h = absurd h.1
+told_kept s (Ok (told.Text text, t)) h = absurd h.1
+told_kept s (Ok (told.Holds b, t)) h = absurd h.1
+told_kept s (Ok (told.Tokens tokens, t)) h = absurd h.1
 told_kept s (Err (stop, t)) h = h
 
 -- ---- lists
@@ -257,6 +279,8 @@ list_of_sound k (value.Number n) h = tt
 list_of_sound k (value.Glue g) h = tt
 list_of_sound k (value.Tokens list) h = h
 list_of_sound k (value.Meaning m) h = tt
+list_of_sound k (value.Boxed b) h = tt
+list_of_sound k (value.Table ns) h = tt
 
 held_kept : (e : Key) (s : State) → IsSound s → IsKept s (Acts.with_held e s)
 held_kept e s h = front_kept s h (Acts.list_of (s.copies.last e).value) (list_of_sound (known_of s) (s.copies.last e).value (h.copies.last.entries e).held)
@@ -272,6 +296,24 @@ parameter_list_kept : (code : ℕ) (s : State) → IsSound s → IsKept s (Acts.
 parameter_list_kept code s h =
     either (IsKept s) (is_from_to output_code errhelp_code code) (Acts.with_held (key.Parameter (code - pretolerance_code)) s) s
     (held_kept (key.Parameter (code - pretolerance_code)) s h) (kept_itself s h)
+
+list_at_sound : (e : Key) (s : State) → IsSound s → AreSoundTokens (known_of s) (Acts.list_at s.copies e)
+list_at_sound e s h = list_of_sound (known_of s) (s.copies.last e).value (h.copies.last.entries e).held
+
+tell_register_kept : (n : ℤ) (s : State) → IsSound s → Keeps IsSoundTold s (Acts.tell_register n s)
+unfolding Acts.tell_register pass_register
+tell_register_kept n s h =
+    either (Keeps IsSoundTold s) (Acts.is_register s.copies.extended n) _ _ (kept_itself s h, list_at_sound (key.Register Toks (Acts.place_of n)) s h)
+    (keeps_did Anything IsSoundTold s (pass_register n s) (λ r. Ok (told.Tokens (Acts.list_at r.1.copies (key.Register Toks 0)), r.1)) (pass_kept _ s h)
+    (λ a t k b. (kept_itself t k.sound, list_at_sound (key.Register Toks 0) t k.sound)))
+
+tell_parameter_kept : (code : ℕ) (s : State) → IsSound s → Keeps IsSoundTold s (Acts.tell_parameter code s)
+unfolding Acts.tell_parameter
+tell_parameter_kept code s h = (
+  kept_itself s h,
+  either (AreSoundTokens (known_of s)) (is_from_to output_code errhelp_code code) (Acts.list_at s.copies (key.Parameter (code - pretolerance_code))) []
+      (list_at_sound (key.Parameter (code - pretolerance_code)) s h) tt,
+)
 
 -- ---- conditions
 
@@ -458,10 +500,13 @@ perform_kept o (act.Look q) s h g = keeps_still IsSoundTold s _ (told_kept s _ (
 perform_kept o (act.LookNumbered code n) s h g = keeps_still IsSoundTold s _ (told_kept s _ (numbered_kept code (first_number n) s h))
 perform_kept o (act.PutRegister n) s h g = keeps_still IsSoundTold s _ (put_register_kept (first_number n) s h)
 perform_kept o (act.PutParameter code) s h g = keeps_still IsSoundTold s _ (parameter_list_kept code s h, tt)
+perform_kept o (act.TellRegister n) s h g = keeps_still IsSoundTold s _ (tell_register_kept (first_number n) s h)
+perform_kept o (act.TellParameter code) s h g = keeps_still IsSoundTold s _ (tell_parameter_kept code s h)
 perform_kept o (act.CantUse t) s h g = keeps_still IsSoundTold s _ (kept_itself s h)
 perform_kept o (act.Digits numerals n) s h g = keeps_still IsSoundTold s _ (bytes_kept s h (Acts.digits numerals n), tt)
 perform_kept o (act.Text body arguments) s h g = keeps_still IsSoundTold s _ (text_kept s h body arguments g.0 g.1, tt)
 perform_kept o (act.Refuse name refusal) s h g = keeps_still IsSoundTold s _ (kept_itself s h)
+perform_kept o act.Full s h g = keeps_still IsSoundTold s _ (kept_itself s h)
 perform_kept o (act.Open kind) s h g = keeps_still IsSoundTold s _ (open_kept kind s h)
 perform_kept o (act.Choose level) s h g = keeps_still IsSoundTold s _ (conditions_kept s h _, tt)
 perform_kept o (act.Leave word level) s h g = keeps_still IsSoundTold s _ (leave_kept word level s h)

@@ -97,6 +97,8 @@ module _ (k l : Known) (g : Grows k l) where
   value_grown (value.Glue n) h = h
   value_grown (value.Tokens list) h = tokens_grown list h
   value_grown (value.Meaning m) h = meaning_grown m h
+  value_grown (value.Boxed b) h = h
+  value_grown (value.Table ns) h = h
 
   font_grown : (n : ℤ) → IsFont k n → IsFont l n
   font_grown (pos n) h = omega (arith, h, g.fonts)
@@ -111,6 +113,8 @@ module _ (k l : Known) (g : Grows k l) where
   range_grown (key.Active byte) v h = h
   range_grown key.CurrentFont v h = font_grown (number_of v) h
   range_grown (key.Family size number) v h = font_grown (number_of v) h
+  range_grown key.Shape v h = h
+  range_grown (key.Penalties array) v h = h
 
   at_grown : (e : Key) (v : Value) → IsSoundAt k e v → IsSoundAt l e v
   at_grown e v h = record { held = value_grown v h.held; in_range = range_grown e v h.in_range }
@@ -123,6 +127,8 @@ module _ (k l : Known) (g : Grows k l) where
   key_grown (key.Active byte) h = h
   key_grown key.CurrentFont h = h
   key_grown (key.Family size number) h = h
+  key_grown key.Shape h = h
+  key_grown (key.Penalties array) h = h
 
   environment_grown : (env : Environment) → IsSoundEnvironment k env → IsSoundEnvironment l env
   environment_grown env h = record {

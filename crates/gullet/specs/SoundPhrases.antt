@@ -5,6 +5,7 @@ use Rattle.phrases.specs.Phrases.{Found, More, Again, Inner, Aside, Ends}
 use Rattle.gullet.specs.declared.task.Task.{Task}
 use Rattle.gullet.specs.declared.task.Task.TheVariants as task
 use Rattle.gullet.specs.declared.task.Told.{Told}
+use Rattle.gullet.specs.declared.task.Told.TheVariants as told
 use Rattle.gullet.specs.declared.task.Act.{Act}
 use Rattle.gullet.specs.declared.task.Act.TheVariants as act
 use Rattle.gullet.specs.declared.task.Want.{Want}
@@ -19,7 +20,7 @@ IsSoundTask k (task.QuantityValue q) = Unit {0}
 IsSoundTask k (task.Undefined t) = IsSoundToken k t
 IsSoundTask k (task.Call name called) = IsSoundToken k name × IsSoundMacro k called
 IsSoundTask k task.ExpandAfter = Unit {0}
-IsSoundTask k task.The = Unit {0}
+IsSoundTask k (task.The straight) = Unit {0}
 IsSoundTask k (task.NumberText numerals) = Unit {0}
 IsSoundTask k (task.If asks) = Unit {0}
 IsSoundTask k (task.PassOver sought) = Unit {0}
@@ -27,15 +28,23 @@ IsSoundTask k (task.BranchEnd t word) = IsSoundToken k t
 IsSoundTask k task.NameText = Unit {0}
 IsSoundTask k (task.Input t) = IsSoundToken k t
 IsSoundTask k task.FileName = Unit {0}
+IsSoundTask k (task.Text expanded) = Unit {0}
 IsSoundTask k (task.Simple thing) = Unit {0}
 
 abbrev pub IsSoundSomeTask : Known → Option Task → Type 0
 IsSoundSomeTask k None = Unit {0}
 IsSoundSomeTask k (Some inner) = IsSoundTask k inner
 
--- what is told has no tokens
+-- what is told: a list has no arguments
 abbrev pub IsSoundTold : Known → Told → Type 0
-IsSoundTold k tells = Unit {0}
+IsSoundTold k told.Done = Unit {0}
+IsSoundTold k (told.Number n) = Unit {0}
+IsSoundTold k (told.Word word) = Unit {0}
+IsSoundTold k (told.Level level) = Unit {0}
+IsSoundTold k told.GoOn = Unit {0}
+IsSoundTold k (told.Text text) = Unit {0}
+IsSoundTold k (told.Holds b) = Unit {0}
+IsSoundTold k (told.Tokens tokens) = AreSoundTokens k tokens
 
 -- a token that was taken, and its meaning
 abbrev pub IsSoundTaken : Known → Taken → Type 0
@@ -57,10 +66,13 @@ IsSoundAct k (act.Look q) = Unit {0}
 IsSoundAct k (act.LookNumbered code n) = Unit {0}
 IsSoundAct k (act.PutRegister n) = Unit {0}
 IsSoundAct k (act.PutParameter code) = Unit {0}
+IsSoundAct k (act.TellRegister n) = Unit {0}
+IsSoundAct k (act.TellParameter code) = Unit {0}
 IsSoundAct k (act.CantUse t) = IsSoundToken k t
 IsSoundAct k (act.Digits numerals n) = Unit {0}
 IsSoundAct k (act.Text body arguments) = AllByRecursion (IsSoundBeside (λ number. Unit {0}) k) body × AllByRecursion (AreSoundTokens k) arguments
 IsSoundAct k (act.Refuse name refusal) = IsSoundToken k name
+IsSoundAct k act.Full = Unit {0}
 IsSoundAct k (act.Open kind) = Unit {0}
 IsSoundAct k (act.Choose level) = Unit {0}
 IsSoundAct k (act.Leave word level) = Unit {0}
@@ -79,7 +91,7 @@ IsSoundWant k want.Expanded = Unit {0}
 IsSoundWant k want.Character = Unit {0}
 IsSoundWant k (want.Act act) = IsSoundAct k act
 IsSoundWant k (want.Inner inner) = IsSoundTask k inner
-IsSoundWant k (want.Gives tells back) = IsSoundSome k back
+IsSoundWant k (want.Gives tells back) = IsSoundTold k tells × IsSoundSome k back
 IsSoundWant k (want.Wrong kind) = Unit {0}
 
 -- what a turn finds

@@ -67,7 +67,7 @@ value_sound extended (key.Register Count number) = above_lowest 0
 value_sound extended (key.Register Dimen number) = above_lowest 0
 value_sound extended (key.Register Skip number) = glue_above
 value_sound extended (key.Register Muskip number) = glue_above
-value_sound extended (key.Register Box number) = above_lowest 0
+value_sound extended (key.Register Box number) = tt
 value_sound extended (key.Register Toks number) = tt
 value_sound extended (key.Parameter place) = parameter_by_sound place (is_glue_parameter place) (is_token_parameter place)
 value_sound extended (key.Code table byte) = code_sound table byte
@@ -75,6 +75,8 @@ value_sound extended (key.Name id) = meaning_sound extended id.0
 value_sound extended (key.Active byte) = tt
 value_sound extended key.CurrentFont = above_lowest 0
 value_sound extended (key.Family size number) = above_lowest 0
+value_sound extended key.Shape = tt
+value_sound extended (key.Penalties array) = tt
 
 category_sound : (byte : ℕ) → nat_lt (initial_category byte) 16 ≡ true
 category_sound byte =
@@ -95,6 +97,8 @@ range_sound extended (key.Name id) = tt
 range_sound extended (key.Active byte) = tt
 range_sound extended key.CurrentFont = omega arith
 range_sound extended (key.Family size number) = omega arith
+range_sound extended key.Shape = tt
+range_sound extended (key.Penalties array) = tt
 
 -- a name that isn't one of the primitives means nothing
 other_untouched : (extended : Bool) (id : NameId) → all_count ≤ id.0 → start_environment extended (key.Name id) ≡ untouched

@@ -21,9 +21,10 @@ use Rattle.gullet.specs.declared.context.Context.{Context}
 use Rattle.gullet.specs.declared.task.Task.{Task}
 use Rattle.gullet.specs.declared.task.Task.TheVariants as task
 use Rattle.gullet.specs.declared.task.Told.{Told}
+use Rattle.gullet.specs.declared.task.Told.TheVariants as told
 use Rattle.gullet.specs.declared.task.Want.{Want}
 use Rattle.gullet.specs.declared.task.Want.TheVariants as want
-use Rattle.gullet.specs.Acts.{perform}
+use Rattle.gullet.specs.Acts.{perform, with_some}
 use Rattle.gullet.specs.Events.{take_event}
 use Rattle.gullet.specs.Expansion.{Turned, is_forbidden, is_full, forbidden, raw_found, aside_by, expanded_found, character_by, character_of, character_found, behind_source, by_event, next_found, got, by_want, begin, rules, most_turns, outcome}
 use Rattle.gullet.specs.Meanings.{expansion, is_missing, known, as_meaning, meaning_of, taken_meaning}
@@ -31,7 +32,7 @@ use Rattle.gullet.specs.State.{State}
 use Rattle.gullet.specs.Wants.{Taken, Tok, Got, Was, wants}
 use Rattle.gullet.specs.Sound.{Known, IsSoundToken, IsSoundMeaning, IsSoundValue, AreSoundCopies, IsSoundEvent, IsSound, known_of}
 use Rattle.gullet.specs.SoundPhrases.{IsSoundTask, IsSoundSomeTask, IsSoundTold, IsSoundTaken, AreSoundTaken, IsSoundWant, IsSoundFound}
-use Rattle.gullet.specs.SoundKept.{Anything, either, each_map, each_two, Grows, token_grown, meaning_grown, IsKept, kept_itself, kept_grows, Keeps, KeepsAll, keeps_still, keeps_did, keeps_then}
+use Rattle.gullet.specs.SoundKept.{Anything, either, each_map, each_two, Grows, token_grown, tokens_grown, meaning_grown, IsKept, kept_itself, kept_grows, Keeps, KeepsAll, keeps_still, keeps_did, keeps_then}
 use Rattle.gullet.specs.SoundTaking.{event_kept}
 use Rattle.gullet.specs.SoundWants.{expansion_sound, wants_sound}
 use Rattle.gullet.specs.SoundActs.{some_kept, perform_kept}
@@ -44,6 +45,8 @@ module _ (k : Known) where
   value_sound (value.Glue g) h = tt
   value_sound (value.Tokens list) h = tt
   value_sound (value.Meaning m) h = h
+  value_sound (value.Boxed b) h = tt
+  value_sound (value.Table ns) h = tt
 
   known_sound : (m : Meaning) → IsSoundMeaning k m → IsSoundMeaning k (known m)
   known_sound meaning.Undefined h = h
@@ -82,6 +85,17 @@ module _ (k : Known) where
   character_sound names (token.Name id) h = character_by_sound (token.Name id) (name_at names id.0) h
   character_sound names (token.Arg number) h = h
   character_sound names (token.Frozen number) h = h
+
+-- what is sound stays so where more is known
+told_grown : (k l : Known) → Grows k l → (tells : Told) → IsSoundTold k tells → IsSoundTold l tells
+told_grown k l g told.Done h = h
+told_grown k l g (told.Number n) h = h
+told_grown k l g (told.Word word) h = h
+told_grown k l g (told.Level level) h = h
+told_grown k l g told.GoOn h = h
+told_grown k l g (told.Text text) h = h
+told_grown k l g (told.Holds b) h = h
+told_grown k l g (told.Tokens tokens) h = tokens_grown k l g tokens h
 
 -- ---- one turn
 
@@ -132,18 +146,19 @@ want_kept o c want.Expanded s h g = keeps_still IsSoundFound s _ (next_kept c (e
 want_kept o c want.Character s h g = keeps_still IsSoundFound s _ (next_kept c (character_found c) (character_kept c) s h)
 want_kept o c (want.Act act) s h g =
     keeps_then IsSoundTold IsSoundFound s (perform o act s) got (perform_kept o act s h g)
-    (λ tells t k a. keeps_still IsSoundFound t (Ok (More (Was tells), t)) (kept_itself t k.sound, tt))
+    (λ tells t k a. keeps_still IsSoundFound t (Ok (More (Was tells), t)) (kept_itself t k.sound, a))
 want_kept o c (want.Inner inner) s h g = keeps_still IsSoundFound s _ (kept_itself s h, g)
-want_kept o c (want.Gives tells back) s h g = keeps_still IsSoundFound s _ (some_kept s h back g, tt)
+want_kept o c (want.Gives tells back) s h g =
+    let kept : IsKept s (with_some back s) = some_kept s h back g.1 in
+    keeps_still IsSoundFound s _ (kept, told_grown (known_of s) (known_of (with_some back s)) (kept_grows s (with_some back s) kept) tells g.0)
 want_kept o c (want.Wrong kind) s h g = keeps_still IsSoundFound s _ (kept_itself s h)
 
 -- ---- the recursion
 
--- what is sound stays so where more is known
 taken_grown : (k l : Known) → Grows k l → (x : Taken) → IsSoundTaken k x → IsSoundTaken l x
 taken_grown k l g (Tok t m) h = (token_grown k l g t h.0, meaning_grown k l g m h.1)
-taken_grown k l g (Got tells) h = tt
-taken_grown k l g (Was tells) h = tt
+taken_grown k l g (Got tells) h = told_grown k l g tells h
+taken_grown k l g (Was tells) h = told_grown k l g tells h
 
 all_grown : (s t : State) → IsKept s t → (taken : List Taken) → AreSoundTaken (known_of s) taken → AreSoundTaken (known_of t) taken
 all_grown s t k taken h = each_map (IsSoundTaken (known_of s)) (IsSoundTaken (known_of t)) (taken_grown (known_of s) (known_of t) (kept_grows s t k)) taken h
@@ -154,7 +169,7 @@ task_grown k l g (task.QuantityValue q) h = h
 task_grown k l g (task.Undefined t) h = token_grown k l g t h
 task_grown k l g (task.Call name called) h = (token_grown k l g name h.0, meaning_grown k l g (meaning.Macro called) h.1)
 task_grown k l g task.ExpandAfter h = h
-task_grown k l g task.The h = h
+task_grown k l g (task.The straight) h = h
 task_grown k l g (task.NumberText numerals) h = h
 task_grown k l g (task.If asks) h = h
 task_grown k l g (task.PassOver sought) h = h
@@ -162,6 +177,7 @@ task_grown k l g (task.BranchEnd t word) h = token_grown k l g t h
 task_grown k l g task.NameText h = h
 task_grown k l g (task.Input t) h = token_grown k l g t h
 task_grown k l g task.FileName h = h
+task_grown k l g (task.Text expanded) h = h
 task_grown k l g (task.Simple thing) h = h
 
 module _ (o : Outside) where
@@ -189,11 +205,11 @@ module _ (o : Outside) where
         keeps_then IsSoundTold IsSoundTold s (begun (rules o) further c inner s) (λ t. further c kind (taken ++ Got t.0 ∷ []) t.1) (begun_kept c inner s h j)
         (λ tells t k a.
         goes_on c kind (taken ++ Got tells ∷ []) t k.sound (task_grown (known_of s) (known_of t) (kept_grows s t k) kind g)
-        (each_two (IsSoundTaken (known_of t)) taken (Got tells ∷ []) (all_grown s t k taken i) (tt, tt)))
+        (each_two (IsSoundTaken (known_of t)) taken (Got tells ∷ []) (all_grown s t k taken i) (a, tt)))
     after_kept c kind taken (Aside inner) s h g i j =
         keeps_then IsSoundTold IsSoundTold s (begun (rules o) further c inner s) (λ t. further c kind taken t.1) (begun_kept c inner s h j)
         (λ tells t k a. goes_on c kind taken t k.sound (task_grown (known_of s) (known_of t) (kept_grows s t k) kind g) (all_grown s t k taken i))
-    after_kept c kind taken (Ends tells) s h g i j = keeps_still IsSoundTold s (Ok (tells, s)) (kept_itself s h, tt)
+    after_kept c kind taken (Ends tells) s h g i j = keeps_still IsSoundTold s (Ok (tells, s)) (kept_itself s h, j)
 
   pub phrase_kept : (n : ℕ) (c : Context) (kind : Task) (taken : List Taken) (s : State) → IsSound s → IsSoundTask (known_of s) kind → AreSoundTaken (known_of s) taken
       → KeepsAll IsSoundTold s (gives (rules o) n c kind taken s)

@@ -1,6 +1,5 @@
 -- What a turn of a phrase found, as the code tells it: a token that was taken goes without its meaning, which is looked up
 -- where it is needed.
-use Rattle.std.specs.Prelude.{Bool, true, false}
 use Rattle.tokens.specs.declared.token.Token.{Token}
 use Rattle.tokens.specs.declared.meaning.Meaning.{Meaning}
 use Rattle.asking.specs.Did.{Did}

@@ -1,7 +1,9 @@
 -- What a phrase wants next, by its kind and what it has taken, the earliest first (The TeXbook, chapters 20 and 24).
-use Rattle.std.specs.Prelude.{ℕ, ℤ, pos, negsuc, ◌==◌, ◌-◌, ◌%◌, unsigned_abs, nat_lt, int_lt, int_le, ◌&&◌, ◌||◌, Bool, true, false, if◌then◌else◌, List, [], ◌∷◌, ◌++◌, map, Option, Some, None, codes}
+use Rattle.std.specs.Prelude.{ℕ, ℤ, pos, negsuc, ◌==◌, ◌+◌, ◌-◌, ◌%◌, unsigned_abs, nat_lt, nat_le, int_lt, int_le, ◌&&◌, ◌||◌, Bool, true, false, if◌then◌else◌, List, [], ◌∷◌, ◌++◌, map, length, Option, Some, None, codes}
 use Rattle.tokens.specs.Codes.{endcsname_code, par_code, relax_code}
-use Rattle.tokens.specs.declared.kind.Kind.TheVariants.{MissingRelation, MissingEndcsname, LeftOut}
+use Rattle.tokens.specs.Cap.{cap_limit}
+use Rattle.tokens.specs.declared.cap.Cap.TheVariants.{Items}
+use Rattle.tokens.specs.declared.kind.Kind.TheVariants.{MissingRelation, MissingEndcsname, MissingLeftBrace, LeftOut}
 use Rattle.tokens.specs.declared.token.Token.{Token}
 use Rattle.tokens.specs.declared.token.Token.TheVariants as token
 use Rattle.tokens.specs.declared.meaning.Macro.{Macro}
@@ -21,6 +23,7 @@ use Rattle.scan_nums.specs.Taken as scan
 use Rattle.scan_nums.specs.Starts.{is_space, is_from_to}
 use Rattle.scan_nums.specs.WholeNumber.{whole_number, wants_character}
 use Rattle.macro_args.specs.declared.rules.Rules.{Rules}
+use Rattle.macro_args.specs.BraceCount.{is_left, is_right}
 use Rattle.macro_args.specs.Arguments.{Use, Open, Complete, Unfit, use_of}
 use Rattle.conditionals.specs.Branches.{Stopping, stop_of}
 use Rattle.gullet.specs.declared.context.Context.{Context}
@@ -43,7 +46,7 @@ use Rattle.gullet.specs.declared.task.Want.{Want}
 use Rattle.gullet.specs.declared.task.Want.TheVariants.{Raw, Expanded, Character, Act, Inner, Gives, Wrong}
 use Rattle.gullet.specs.declared.task.BranchWord.{BranchWord}
 use Rattle.gullet.specs.Meanings.{expansion, is_looked_at}
-use Rattle.tokens.specs.Codes.{count_code, dimen_code, skip_code, muskip_code, toks_code, catcode_code, delcode_code, output_code, errhelp_code}
+use Rattle.tokens.specs.Codes.{the_code, count_code, dimen_code, skip_code, muskip_code, toks_code, catcode_code, delcode_code, output_code, errhelp_code}
 
 -- what a phrase has taken: a token with the meaning that it had then, what an inner phrase told, or what was told by
 -- something that was done
@@ -82,6 +85,7 @@ number_told (told.Level level) = number.Int (pos 0)
 number_told told.GoOn = number.Int (pos 0)
 number_told (told.Text text) = number.Int (pos 0)
 number_told (told.Holds b) = number.Int (pos 0)
+number_told (told.Tokens tokens) = number.Int (pos 0)
 
 -- an inner phrase answers what was asked for; behind a trouble that was passed over the number goes on
 abbrev pub scanned : Taken → scan.Taken
@@ -187,18 +191,29 @@ abbrev pub number_text_want : Numerals → List Taken → Want
 number_text_want numerals [] = Inner task.WholeNumber
 number_text_want numerals (x ∷ rest) = digits_want numerals (told_of x) rest
 
+-- what is told of something that is done is told of the phrase
+abbrev pub telling : Want → List Taken → Want
+telling want [] = want
+telling want (x ∷ rest) = Gives (told_of x) None
+
 -- \the: a quantity and its digits, the number that a name stands for, or the list of a token register or parameter as it
--- stands (The TeXbook, page 214; tex.web 413 to 419 and 465). Nothing else may stand there (tex.web 428)
+-- stands (The TeXbook, pages 214 to 216; tex.web 413 to 419 and 465), which is put in front, or told where it goes straight
+-- into a text (tex.web 478). Nothing else may stand there (tex.web 428)
 abbrev pub shown_want : Quantity → List Taken → Want
 shown_want q [] = Inner (task.QuantityValue q)
 shown_want q (x ∷ rest) = digits_want Decimal (told_of x) rest
 
-abbrev pub register_list_want : Told → List Taken → Want
-register_list_want number taken = only (Act (act.PutRegister (number_told number))) taken
+abbrev pub register_list_want : Bool → Number → List Taken → Want
+register_list_want true n taken = telling (Act (act.TellRegister n)) taken
+register_list_want false n taken = only (Act (act.PutRegister n)) taken
 
-abbrev pub toks_want : List Taken → Want
-toks_want [] = Inner task.WholeNumber
-toks_want (x ∷ rest) = register_list_want (told_of x) rest
+abbrev pub parameter_list_want : Bool → ℕ → List Taken → Want
+parameter_list_want true code taken = telling (Act (act.TellParameter code)) taken
+parameter_list_want false code taken = only (Act (act.PutParameter code)) taken
+
+abbrev pub toks_want : Bool → List Taken → Want
+toks_want straight [] = Inner task.WholeNumber
+toks_want straight (x ∷ rest) = register_list_want straight (number_told (told_of x)) rest
 
 abbrev pub is_token_parameter_code : ℕ → Bool
 is_token_parameter_code code = is_from_to output_code errhelp_code code
@@ -206,34 +221,34 @@ is_token_parameter_code code = is_from_to output_code errhelp_code code
 abbrev pub quantity : ℕ → Option ℕ → Quantity
 quantity code index = record { code = code; index = index }
 
-abbrev pub the_primitive : Token → ℕ → List Taken → Want
-the_primitive t code taken =
+abbrev pub the_primitive : Bool → Token → ℕ → List Taken → Want
+the_primitive straight t code taken =
     if is_looked_at code then shown_want (quantity code None) taken
-    else if code == toks_code then toks_want taken
-    else if is_token_parameter_code code then only (Act (act.PutParameter code)) taken
+    else if code == toks_code then toks_want straight taken
+    else if is_token_parameter_code code then parameter_list_want straight code taken
     else only (Act (act.CantUse t)) taken
 
-abbrev pub the_register : Token → RegKind → ℕ → List Taken → Want
-the_register t Count place taken = shown_want (quantity count_code (Some place)) taken
-the_register t Dimen place taken = shown_want (quantity dimen_code (Some place)) taken
-the_register t Skip place taken = shown_want (quantity skip_code (Some place)) taken
-the_register t Muskip place taken = shown_want (quantity muskip_code (Some place)) taken
-the_register t Box place taken = only (Act (act.CantUse t)) taken
-the_register t Toks place taken = only (Act (act.PutRegister (number.Int (pos place)))) taken
+abbrev pub the_register : Bool → Token → RegKind → ℕ → List Taken → Want
+the_register straight t Count place taken = shown_want (quantity count_code (Some place)) taken
+the_register straight t Dimen place taken = shown_want (quantity dimen_code (Some place)) taken
+the_register straight t Skip place taken = shown_want (quantity skip_code (Some place)) taken
+the_register straight t Muskip place taken = shown_want (quantity muskip_code (Some place)) taken
+the_register straight t Box place taken = only (Act (act.CantUse t)) taken
+the_register straight t Toks place taken = register_list_want straight (number.Int (pos place)) taken
 
-abbrev pub the_value : Token → Meaning → List Taken → Want
-the_value t meaning.Undefined taken = only (Act (act.CantUse t)) taken
-the_value t (meaning.Primitive code) taken = the_primitive t code taken
-the_value t (meaning.Macro m) taken = only (Act (act.CantUse t)) taken
-the_value t (meaning.Char cat byte) taken = only (Act (act.CantUse t)) taken
-the_value t (meaning.CharDef byte) taken = only (Act (act.Digits Decimal (number.Int (pos byte)))) taken
-the_value t (meaning.MathCharDef n) taken = only (Act (act.Digits Decimal (number.Int (pos n)))) taken
-the_value t (meaning.Register kind place) taken = the_register t kind place taken
-the_value t (meaning.Font font) taken = only (Act (act.CantUse t)) taken
+abbrev pub the_value : Bool → Token → Meaning → List Taken → Want
+the_value straight t meaning.Undefined taken = only (Act (act.CantUse t)) taken
+the_value straight t (meaning.Primitive code) taken = the_primitive straight t code taken
+the_value straight t (meaning.Macro m) taken = only (Act (act.CantUse t)) taken
+the_value straight t (meaning.Char cat byte) taken = only (Act (act.CantUse t)) taken
+the_value straight t (meaning.CharDef byte) taken = only (Act (act.Digits Decimal (number.Int (pos byte)))) taken
+the_value straight t (meaning.MathCharDef n) taken = only (Act (act.Digits Decimal (number.Int (pos n)))) taken
+the_value straight t (meaning.Register kind place) taken = the_register straight t kind place taken
+the_value straight t (meaning.Font font) taken = only (Act (act.CantUse t)) taken
 
-abbrev pub the_want : List Taken → Want
-the_want [] = Expanded
-the_want (x ∷ rest) = the_value (token_of x) (meaning_of x) rest
+abbrev pub the_want : Bool → List Taken → Want
+the_want straight [] = Expanded
+the_want straight (x ∷ rest) = the_value straight (token_of x) (meaning_of x) rest
 
 -- ---- conditions
 
@@ -253,6 +268,7 @@ word_told (told.Level level) = 0
 word_told told.GoOn = 0
 word_told (told.Text text) = 0
 word_told (told.Holds b) = 0
+word_told (told.Tokens tokens) = 0
 
 abbrev pub level_told : Told → ℕ
 level_told told.Done = 0
@@ -262,6 +278,7 @@ level_told (told.Level level) = level
 level_told told.GoOn = 0
 level_told (told.Text text) = 0
 level_told (told.Holds b) = 0
+level_told (told.Tokens tokens) = 0
 
 abbrev pub goes_on : Told → Bool
 goes_on told.Done = false
@@ -271,6 +288,7 @@ goes_on (told.Level level) = false
 goes_on told.GoOn = true
 goes_on (told.Text text) = false
 goes_on (told.Holds b) = false
+goes_on (told.Tokens tokens) = false
 
 abbrev pub holds_told : Told → Bool
 holds_told told.Done = false
@@ -280,6 +298,7 @@ holds_told (told.Level level) = false
 holds_told told.GoOn = false
 holds_told (told.Text text) = false
 holds_told (told.Holds b) = b
+holds_told (told.Tokens tokens) = false
 
 -- the branch in front of \else is passed over, up to the condition's own \else or \fi
 abbrev pub false_want : ℕ → List Taken → Want
@@ -563,6 +582,7 @@ text_told (told.Level level) = []
 text_told told.GoOn = []
 text_told (told.Text text) = text
 text_told (told.Holds b) = []
+text_told (told.Tokens tokens) = []
 
 -- \input: a name, and its file. Where the name of a file is being read, \relax is inserted in front of it, which ends
 -- that name (tex.web 378)
@@ -573,6 +593,91 @@ abbrev pub input_by : Token → Bool → List Taken → Want
 input_by t true taken = only (Act (act.InsertRelax t)) taken
 input_by t false [] = Inner task.FileName
 input_by t false (x ∷ rest) = named_want (told_of x) rest
+
+-- ---- texts (The TeXbook, chapter 20, page 215, and chapter 24, page 276; tex.web 473 to 478)
+
+-- a list has at most so many tokens
+abbrev pub fits : ℕ → ℕ → Bool
+fits size more = nat_le (size + more) (cap_limit Items)
+
+abbrev pub longer : (List Token → Want) → List Token → List Token → List Taken → Want
+longer further tokens more taken = if fits (length tokens) (length more) then further (tokens ++ more) else only (Act act.Full) taken
+
+abbrev pub tokens_told : Told → List Token
+tokens_told told.Done = []
+tokens_told (told.Number n) = []
+tokens_told (told.Word word) = []
+tokens_told (told.Level level) = []
+tokens_told told.GoOn = []
+tokens_told (told.Text text) = []
+tokens_told (told.Holds b) = []
+tokens_told (told.Tokens tokens) = tokens
+
+-- whether it means a character of this category, also where a name stands for that
+abbrev pub means_category : ℕ → Meaning → Bool
+means_category wanted meaning.Undefined = false
+means_category wanted (meaning.Primitive code) = false
+means_category wanted (meaning.Macro m) = false
+means_category wanted (meaning.Char cat byte) = cat == wanted
+means_category wanted (meaning.CharDef byte) = false
+means_category wanted (meaning.MathCharDef n) = false
+means_category wanted (meaning.Register kind n) = false
+means_category wanted (meaning.Font font) = false
+
+abbrev pub is_left_brace : Meaning → Bool
+is_left_brace m = means_category 1 m
+
+-- spaces and \relax are passed, and then a left brace stands (tex.web 403 and 404)
+abbrev pub is_filler : Meaning → Bool
+is_filler m = is_space m || is_relax m
+
+abbrev pub text_opened : Want → Meaning → Want
+text_opened inside m = if is_left_brace m then inside else Wrong MissingLeftBrace
+
+abbrev pub text_want : (List Taken → Want) → List Taken → Want
+text_want inside [] = Expanded
+text_want inside (x ∷ rest) = if is_filler (meaning_of x) then text_want inside rest else text_opened (inside rest) (meaning_of x)
+
+-- what is expanded in an expanded text: the tokens of a list behind \the are told, and a macro with \protected is taken as it
+-- stands (tex.web 478; the e-TeX manual, section 3.1)
+abbrev pub text_expansion : Token → Meaning → Option Task
+text_expansion t meaning.Undefined = expansion t meaning.Undefined
+text_expansion t (meaning.Primitive code) = if code == the_code then Some (task.The true) else expansion t (meaning.Primitive code)
+text_expansion t (meaning.Macro m) = if m.guarded then None else expansion t (meaning.Macro m)
+text_expansion t (meaning.Char cat byte) = None
+text_expansion t (meaning.CharDef byte) = None
+text_expansion t (meaning.MathCharDef n) = None
+text_expansion t (meaning.Register kind n) = None
+text_expansion t (meaning.Font font) = None
+
+abbrev pub expansion_in : Bool → Token → Meaning → Option Task
+expansion_in true t m = text_expansion t m
+expansion_in false t m = None
+
+-- where a text is: in front of its next token, or of what an expansion in it tells
+pub data Place : Type 0 where
+  Ahead : Place
+  Behind : Task → Place
+
+-- a token that isn't expanded: characters that are braces are counted, and the right one that has no partner ends the text
+-- (tex.web 477)
+abbrev pub text_by : (ℕ → List Token → Want) → List Token → ℕ → Token → List Taken → Want
+text_by further tokens depth t taken =
+    if is_left t then longer (further (depth + 1)) tokens (t ∷ []) taken
+    else if is_right t then (if depth == 0 then Gives (told.Tokens tokens) None else longer (further (depth - 1)) tokens (t ∷ []) taken)
+    else longer (further depth) tokens (t ∷ []) taken
+
+abbrev pub gathered_by : (Place → ℕ → List Token → Want) → List Token → ℕ → Token → Option Task → List Taken → Want
+gathered_by further tokens depth t None taken = text_by (further Ahead) tokens depth t taken
+gathered_by further tokens depth t (Some inner) taken = further (Behind inner) depth tokens
+
+-- behind the left brace: so many braces are open inside, and these are the tokens so far
+abbrev pub gathered : Bool → Place → ℕ → List Token → List Taken → Want
+gathered expanded Ahead depth tokens [] = Raw
+gathered expanded (Behind inner) depth tokens [] = Inner inner
+gathered expanded Ahead depth tokens (x ∷ rest) =
+    gathered_by (λ place inside more. gathered expanded place inside more rest) tokens depth (token_of x) (expansion_in expanded (token_of x) (meaning_of x)) rest
+gathered expanded (Behind inner) depth tokens (x ∷ rest) = longer (λ more. gathered expanded Ahead depth more rest) tokens (tokens_told (told_of x)) rest
 
 -- ---- all kinds
 
@@ -618,7 +723,7 @@ wants c (task.QuantityValue q) taken = quantity_by q q.index taken
 wants c (task.Undefined t) taken = only (Act (act.PassUndefined t)) taken
 wants c (task.Call name called) taken = call_want name called taken
 wants c task.ExpandAfter taken = expand_after_want taken
-wants c task.The taken = the_want taken
+wants c (task.The straight) taken = the_want straight taken
 wants c (task.NumberText numerals) taken = number_text_want numerals taken
 wants c (task.If asks) taken = if_want asks taken
 wants c (task.PassOver sought) taken = pass_over_want sought taken
@@ -626,4 +731,5 @@ wants c (task.BranchEnd t word) taken = branch_end_want t word taken
 wants c task.NameText taken = name_from [] taken
 wants c (task.Input t) taken = input_by t c.naming taken
 wants c task.FileName taken = file_want taken
+wants c (task.Text expanded) taken = text_want (gathered expanded Ahead 0 []) taken
 wants c (task.Simple simple) taken = only (Act (act.Simple simple)) taken

@@ -24,7 +24,7 @@ use std::alloc::{AllocError, Global};
 use std::marker::Brand;
 use std::sync::ledger::{Blank, Ledger};
 use steps::Steps;
-use tokens::{Kind, Meaning, NameId, Stop, Token, TokenList, codes};
+use tokens::{Cap, Kind, Meaning, NameId, Stop, Token, TokenList, codes};
 
 impl Gullet {
     /// Does what a phrase wants to be done.
@@ -49,6 +49,8 @@ impl Gullet {
             Act::LookNumbered { code, number } => self.look_numbered(site, code, number.first()),
             Act::PutRegister(number) => self.put_register(site, number.first()),
             Act::PutParameter(code) => done(self.put_parameter(site, code)),
+            Act::TellRegister(number) => self.tell_register(site, number.first()),
+            Act::TellParameter(code) => self.tell_parameter(site, code),
             Act::CantUse(token) => self.cant_use(site, token),
             Act::Digits { numerals, number } => self.push_digits(site, numerals, number),
             Act::Text { body, arguments } => done(self.push_text(
@@ -57,6 +59,7 @@ impl Gullet {
                 arguments.into_lists(),
             )),
             Act::Refuse { name, refusal } => self.refuse(site, name, refusal),
+            Act::Full => Err(Stop::Capacity(Cap::Items)),
             Act::Open(kind) => self.open_condition(site, kind),
             Act::Choose(level) => {
                 self.choose(site, level);
@@ -100,7 +103,7 @@ fn others(alloc: Global, text: &[u8]) -> Result<Vec<Token>, AllocError>
 }
 
 /// The list of some tokens. So few can't be too many.
-fn list_from(alloc: Global, tokens: &[Token]) -> Result<TokenList, AllocError>
+pub fn list_from(alloc: Global, tokens: &[Token]) -> Result<TokenList, AllocError>
     ensures { IfOk result (λ list. list ≡ tokens.now) }
 {
     match TokenList::from_slice(alloc, tokens) {
@@ -158,7 +161,7 @@ impl Gullet {
     }
 
     /// Puts a macro's text in front.
-    fn push_text(
+    pub(crate) fn push_text(
         &mut self,
         site: &Site,
         body: TokenList,

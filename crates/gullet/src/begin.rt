@@ -6,6 +6,7 @@ ghost use Rattle.gullet.specs.declared.context.Context.{Context};
 ghost use Rattle.gullet.specs.Progress.{rest_behind, is_plain, WhileOpen, Stands, Ready};
 ghost use Rattle.gullet.specs.Wants.{Taken, wants, quantity_by, takes_number, input_by, call_want, place_of_test};
 
+use crate::calling::{Calling, Parts};
 use crate::context::Context;
 use crate::progress::Progress;
 use crate::task::{Act, Arguments, ModeTest, Part, Task, Test, Want};
@@ -23,17 +24,11 @@ pub fn begin(alloc: Global, context: Context, task: Task) -> Result<(Progress, W
 {
     match task {
         Task::Call { name, called } => begin_call(alloc, name, called),
-        Task::WholeNumber => Ok((
-            Progress::Number {
-                scan: IntScan::new(),
-                last: None,
-            },
-            Want::Expanded,
-        )),
+        Task::WholeNumber => Ok((Progress::Number(IntScan::new()), Want::Expanded)),
         Task::QuantityValue(quantity) => Ok(begin_quantity(quantity)),
         Task::Undefined(token) => Ok(only(Act::PassUndefined(token))),
         Task::ExpandAfter => Ok((Progress::ExpandFirst, Want::Raw)),
-        Task::The => Ok((Progress::Value, Want::Expanded)),
+        Task::The { straight } => Ok((Progress::Value { straight }, Want::Expanded)),
         Task::NumberText(numerals) => Ok((
             Progress::Digits(numerals),
             Want::Inner(Task::WholeNumber),
@@ -62,6 +57,7 @@ pub fn begin(alloc: Global, context: Context, task: Task) -> Result<(Progress, W
         )),
         Task::Input(token) => Ok(begin_input(context.naming, token)),
         Task::FileName => Ok((Progress::FileStart, Want::Expanded)),
+        Task::Text { expanded } => Ok((Progress::TextStart { expanded }, Want::Expanded)),
         Task::Simple(simple) => Ok(only(Act::Simple(simple))),
     }
 }
@@ -149,5 +145,6 @@ fn begin_call(alloc: Global, name: Token, called: Macro) -> Result<(Progress, Wa
         par: NameId(u64::from(codes::PAR)),
     };
     let scan = ArgScan::new(alloc, rules, called.params.share()?);
-    Ok((Progress::Call { name, called, scan }, Want::Raw))
+    let calling = Calling::new(alloc, Parts { name, called, scan })?;
+    Ok((Progress::Call(calling), Want::Raw))
 }

@@ -1,37 +1,28 @@
-//! A macro's call takes its tokens (The TeXbook, chapter 20; `tex.web` 389 to 401).
+//! What a macro's call wants done in the end (The TeXbook, chapter 20; `tex.web` 389 to 401).
 
-ghost use Rattle.std.specs.Prelude.{IfOk};
-ghost use Rattle.tokens.specs.declared.meaning.Meaning.{Meaning};
-ghost use Rattle.gullet.specs.Progress.{TakesUp};
-ghost use Rattle.gullet.specs.Wants.{Tok};
+ghost use Rattle.std.specs.Prelude.{◌≡◌};
 
-use crate::progress::Progress;
+use crate::calling::Parts;
 use crate::task::{Act, Arguments, Want};
-use macro_args::{ArgScan, Verdict};
-use std::alloc::AllocError;
-use tokens::{Macro, Token};
+use macro_args::Refusal;
 
-/// The call takes a token, whose meaning it doesn't look at.
-pub fn take_token(
-    name: Token,
-    called: Macro,
-    mut scan: ArgScan,
-    token: Token,
-) -> Result<(Progress, Want), AllocError>
-    ensures { IfOk result (λ r. (meaning : Meaning) → TakesUp (Progress.Call name called scan) (Tok token meaning) r.0 r.1) }
+/// The use is whole: the macro's text is put in front.
+pub fn whole(parts: Parts) -> Want
+    ensures { result ≡ Want.Act (Act.Text parts.called.body parts.scan.found) }
 {
-    match scan.take(token)? {
-        Verdict::Need => Ok((Progress::Call { name, called, scan }, Want::Raw)),
-        Verdict::Done => Ok((
-            Progress::Finishing { back: None },
-            Want::Act(Act::Text {
-                body: called.body,
-                arguments: Arguments::new(scan.arguments()),
-            }),
-        )),
-        Verdict::Refused(refusal) => Ok((
-            Progress::Finishing { back: None },
-            Want::Act(Act::Refuse { name, refusal }),
-        )),
-    }
+    let Parts { called, scan, .. } = parts;
+    Want::Act(Act::Text {
+        body: called.body,
+        arguments: Arguments::new(scan.arguments()),
+    })
+}
+
+/// The tokens are no use of the macro.
+pub fn refused(parts: Parts, refusal: Refusal) -> Want
+    ensures { result ≡ Want.Act (Act.Refuse parts.name refusal) }
+{
+    Want::Act(Act::Refuse {
+        name: parts.name,
+        refusal,
+    })
 }

@@ -138,13 +138,13 @@ fn again(want: &Want) -> Want
 fn take(
     alloc: Global,
     env: &Env,
-    progress: Progress,
+    progress: &mut Progress,
     token: Token,
     of: Token,
     noexpand: bool,
-) -> Result<(Progress, Want), AllocError>
-    requires { FitsToken progress }
-    ensures { IfOk result (λ r. TakesUp progress (Tok token (taken_meaning (copies_of env.now) of noexpand)) r.0 r.1) }
+) -> Result<Want, AllocError>
+    requires { FitsToken progress.old }
+    ensures { IfOk result (λ want. TakesUp progress.old (Tok token (taken_meaning (copies_of env.now) of noexpand)) progress.new want) }
 {
     let fixed = fixed_meaning(env, of, noexpand);
     let meaning = taken_meaning(env, &fixed, of, noexpand);
@@ -155,16 +155,16 @@ fn take(
 fn resume(
     alloc: Global,
     takes: bool,
-    progress: Progress,
+    progress: &mut Progress,
     told: Told,
-) -> Result<(Progress, Want), AllocError>
-    requires { Waits takes progress }
-    ensures { IfOk result (λ r. GoesOn takes progress told r.0 r.1) }
+) -> Result<Want, AllocError>
+    requires { Waits takes progress.old }
+    ensures { IfOk result (λ want. GoesOn takes progress.old told progress.new want) }
 {
     if takes {
         take_got(alloc, progress, told)
     } else {
-        Ok((progress, Want::Expanded))
+        Ok(Want::Expanded)
     }
 }
 
@@ -201,12 +201,12 @@ impl Gullet {
                     token,
                     of,
                     noexpand,
-                } => match take(self.alloc, &site.env, progress, token, of, noexpand) {
-                    Ok(next) => (progress, want) = next,
+                } => match take(self.alloc, &site.env, &mut progress, token, of, noexpand) {
+                    Ok(next) => want = next,
                     Err(_) => return Err(Stop::OutOfMemory),
                 },
-                Turned::Told(told) => match take_was(self.alloc, progress, told) {
-                    Ok(next) => (progress, want) = next,
+                Turned::Told(told) => match take_was(self.alloc, &mut progress, told) {
+                    Ok(next) => want = next,
                     Err(_) => return Err(Stop::OutOfMemory),
                 },
                 Turned::Again => want = wanted_again,
@@ -244,8 +244,9 @@ impl Gullet {
                     None => return Ok(told),
                     Some(frame) => {
                         context = frame.context;
-                        match resume(self.alloc, frame.takes, frame.progress, told) {
-                            Ok(next) => (progress, want) = next,
+                        progress = frame.progress;
+                        match resume(self.alloc, frame.takes, &mut progress, told) {
+                            Ok(next) => want = next,
                             Err(_) => return Err(Stop::OutOfMemory),
                         }
                     }

@@ -15,12 +15,12 @@ fn is_counted(task: &Task) -> bool
     ensures { result ≡ is_counted task.now }
 {
     match task {
-        Task::WholeNumber | Task::If(_) | Task::NameText => true,
+        Task::WholeNumber | Task::If(_) | Task::NameText | Task::Text { .. } => true,
         Task::QuantityValue(_)
         | Task::Undefined(_)
         | Task::Call { .. }
         | Task::ExpandAfter
-        | Task::The
+        | Task::The { .. }
         | Task::NumberText(_)
         | Task::PassOver(_)
         | Task::BranchEnd { .. }
@@ -41,13 +41,14 @@ fn is_file_name(task: &Task) -> bool
         | Task::Undefined(_)
         | Task::Call { .. }
         | Task::ExpandAfter
-        | Task::The
+        | Task::The { .. }
         | Task::NumberText(_)
         | Task::If(_)
         | Task::PassOver(_)
         | Task::BranchEnd { .. }
         | Task::NameText
         | Task::Input(_)
+        | Task::Text { .. }
         | Task::Simple(_) => false,
     }
 }
@@ -57,12 +58,12 @@ fn is_closed(task: &Task) -> bool
     ensures { result ≡ is_closed task.now }
 {
     match task {
-        Task::Call { .. } | Task::PassOver(_) => true,
+        Task::Call { .. } | Task::PassOver(_) | Task::Text { .. } => true,
         Task::WholeNumber
         | Task::QuantityValue(_)
         | Task::Undefined(_)
         | Task::ExpandAfter
-        | Task::The
+        | Task::The { .. }
         | Task::NumberText(_)
         | Task::If(_)
         | Task::BranchEnd { .. }

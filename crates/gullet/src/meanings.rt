@@ -197,7 +197,7 @@ fn expansion_of_code(token: Token, code: u16) -> Option<Task>
     if code == codes::INPUT {
         Some(Task::Input(token))
     } else if code == codes::THE {
-        Some(Task::The)
+        Some(Task::The { straight: false })
     } else if code == codes::EXPANDAFTER {
         Some(Task::ExpandAfter)
     } else if code == codes::CSNAME {

@@ -20,10 +20,11 @@ use crate::meanings::{expansion_of, is_expanded};
 use crate::site::Site;
 use crate::task::{Task, Told};
 use asking::Library;
+use macro_args::takes_tokens;
 use pending::Event;
 use save_groups::Env;
 use scan_nums::{Number, Phrase};
-use tokens::{Stop, Token};
+use tokens::{Macro, Stop, Token};
 
 /// What one look at what comes next found.
 #[derive(Clone, Copy, Debug)]
@@ -175,6 +176,42 @@ impl Gullet {
         ensures does { DoesBeside L.outside (L.seen library.old) (L.seen library.new) result (state_of self.new site.new)
             (expanded L.outside task (state_of self.old site.old)) }
     {
+        match task {
+            Task::Call { name, called } => self.expand_call(site, library, name, called),
+            task => self.expand_phrase(site, library, task),
+        }
+    }
+
+    /// The same of a macro's call. One without parameters takes no token: its text is put in front at once.
+    fn expand_call<L: Library>(
+        &mut self,
+        site: &mut Site,
+        library: &mut L,
+        name: Token,
+        called: Macro,
+    ) -> Result<Sought, Stop>
+        ensures does { DoesBeside L.outside (L.seen library.old) (L.seen library.new) result (state_of self.new site.new)
+            (expanded L.outside (Task.Call name called) (state_of self.old site.old)) }
+    {
+        if takes_tokens(&called.params) {
+            return self.expand_phrase(site, library, Task::Call { name, called });
+        }
+        match self.push_text(site, called.body, Vec::new(self.alloc)) {
+            Ok(()) => Ok(Sought::Again),
+            Err(_) => Err(Stop::OutOfMemory),
+        }
+    }
+
+    /// The same of any phrase.
+    fn expand_phrase<L: Library>(
+        &mut self,
+        site: &mut Site,
+        library: &mut L,
+        task: Task,
+    ) -> Result<Sought, Stop>
+        ensures does { DoesBeside L.outside (L.seen library.old) (L.seen library.new) result (state_of self.new site.new)
+            (expanded L.outside task (state_of self.old site.old)) }
+    {
         match self.read(site, library, OUTERMOST, task) {
             Ok(_) => Ok(Sought::Again),
             Err(stop) => Err(stop),
@@ -232,7 +269,12 @@ fn number_told(told: Told) -> Number
 {
     match told {
         Told::Number(number) => number,
-        Told::Done | Told::Word(_) | Told::Level(_) | Told::GoOn | Told::Text(_) | Told::Holds(_) =>
-            Number::Int(0),
+        Told::Done
+        | Told::Word(_)
+        | Told::Level(_)
+        | Told::GoOn
+        | Told::Text(_)
+        | Told::Holds(_)
+        | Told::Tokens(_) => Number::Int(0),
     }
 }

@@ -83,45 +83,37 @@ pub fn number_want(
     }
 }
 
-/// The number takes a token.
+/// The number takes a token, and says what it wants next.
 pub fn take_token(
     alloc: Global,
-    mut scan: IntScan,
+    scan: &mut IntScan,
     token: Token,
     meaning: &Meaning,
-) -> Result<(Progress, Want), AllocError>
-    requires { awaits scan ≡ NextToken }
-    ensures { IfOk result (λ r. (last : Option Token) → TakesUp (Progress.Number scan last) (Tok token meaning.now) r.0 r.1) }
+) -> Result<Want, AllocError>
+    requires { awaits scan.old ≡ NextToken }
+    ensures { IfOk result (λ want. TakesUp (Progress.Number scan.old) (Tok token meaning.now) (Progress.Number scan.new) want) }
 {
     let verdict = scan.take(token, meaning);
     let is_character = scan.wants_character();
-    let last = Some(token);
-    let want = number_want(alloc, verdict, is_character, last)?;
-    Ok((Progress::Number { scan, last }, want))
+    number_want(alloc, verdict, is_character, Some(token))
 }
 
 /// The number takes the value that it asked for.
-pub fn take_value(
-    alloc: Global,
-    mut scan: IntScan,
-    told: Told,
-) -> Result<(Progress, Want), AllocError>
-    requires { awaits scan ≡ Answer }
-    ensures { IfOk result (λ r. (last : Option Token) → TakesUp (Progress.Number scan last) (Got told) r.0 r.1) }
+pub fn take_value(alloc: Global, scan: &mut IntScan, told: Told) -> Result<Want, AllocError>
+    requires { awaits scan.old ≡ Answer }
+    ensures { IfOk result (λ want. TakesUp (Progress.Number scan.old) (Got told) (Progress.Number scan.new) want) }
 {
     let verdict = scan.answer(negatable(number_told(&told)));
     let is_character = scan.wants_character();
-    let want = number_want(alloc, verdict, is_character, None)?;
-    Ok((Progress::Number { scan, last: None }, want))
+    number_want(alloc, verdict, is_character, None)
 }
 
 /// The number goes on behind a trouble that was passed over.
-pub fn resume(alloc: Global, mut scan: IntScan) -> Result<(Progress, Want), AllocError>
-    requires { awaits scan ≡ Resumption }
-    ensures { IfOk result (λ r. (last : Option Token) (told : Told) → TakesUp (Progress.Number scan last) (Was told) r.0 r.1) }
+pub fn resume(alloc: Global, scan: &mut IntScan) -> Result<Want, AllocError>
+    requires { awaits scan.old ≡ Resumption }
+    ensures { IfOk result (λ want. (told : Told) → TakesUp (Progress.Number scan.old) (Was told) (Progress.Number scan.new) want) }
 {
     let verdict = scan.resume();
     let is_character = scan.wants_character();
-    let want = number_want(alloc, verdict, is_character, None)?;
-    Ok((Progress::Number { scan, last: None }, want))
+    number_want(alloc, verdict, is_character, None)
 }

@@ -1,11 +1,9 @@
 //! A text that is passed over takes its tokens (`tex.web` 494).
 
-ghost use Rattle.std.specs.Prelude.{◌≡◌, ◌+◌, IfOk};
-ghost use Rattle.tokens.specs.declared.token.Token.{Token};
-ghost use Rattle.gullet.specs.Progress.{TakesUp};
-ghost use Rattle.gullet.specs.Wants.{Tok};
+ghost use Rattle.std.specs.Prelude.{◌≡◌, ◌+◌, ◌<◌, ◌^◌, ◌++◌, ◌∷◌, [], ℕ, List, Option, length, IfOk, OnOk};
+ghost use Rattle.tokens.specs.declared.meaning.Meaning.{Meaning as MeaningValue};
+ghost use Rattle.conditionals.specs.Skipping.{StandsFor, Tells};
 
-use crate::progress::Progress;
 use crate::task::{Told, Want};
 use conditionals::{Skip, SkipScan};
 use std::alloc::AllocError;
@@ -13,7 +11,7 @@ use tokens::Meaning;
 
 /// How many tokens were taken with one more. More than 2^64-1 take longer than any run: where they came, memory would be
 /// said to be short.
-fn with_one_more(taken: u64) -> Result<u64, AllocError>
+pub fn with_one_more(taken: u64) -> Result<u64, AllocError>
     ensures { IfOk result (λ more. more ≡ taken + 1) }
 {
     if taken == u64::MAX {
@@ -23,30 +21,22 @@ fn with_one_more(taken: u64) -> Result<u64, AllocError>
 }
 
 /// The text takes a token, of which it looks at the meaning alone.
-pub fn take_token(
-    sought: u32,
-    mut scan: SkipScan,
-    taken: u64,
-    meaning: &Meaning,
-) -> Result<(Progress, Want), AllocError>
-    ensures { IfOk result (λ r. (token : Token) → TakesUp (Progress.Passing sought scan taken) (Tok token meaning.now) r.0 r.1) }
+pub fn take(scan: &mut SkipScan, taken: &mut u64, meaning: &Meaning) -> Result<Skip, AllocError>
+    ensures counted { OnOk result (taken.new ≡ taken.old + 1) }
+    ensures few { OnOk result (taken.old + 1 < 2 ^ 64) }
+    ensures tells { IfOk result (λ skip. (sought : ℕ) (before : List MeaningValue) → length before + 1 < 2 ^ 64
+        → StandsFor sought before scan.old → Tells sought (before ++ meaning.now ∷ []) skip scan.new) }
 {
-    let more = with_one_more(taken)?;
-    match scan.take(meaning) {
-        Skip::Go => Ok((
-            Progress::Passing {
-                sought,
-                scan,
-                taken: more,
-            },
-            Want::Raw,
-        )),
-        Skip::Stopped { word } => Ok((
-            Progress::Telling,
-            Want::Gives {
-                told: Told::Word(word),
-                back: None,
-            },
-        )),
+    *taken = with_one_more(*taken)?;
+    Ok(scan.take(meaning))
+}
+
+/// The text has ended with this word.
+pub fn ended(word: u8) -> Want
+    ensures { result ≡ Want.Gives (Told.Word word) Option.None }
+{
+    Want::Gives {
+        told: Told::Word(word),
+        back: None,
     }
 }

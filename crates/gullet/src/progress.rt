@@ -1,31 +1,32 @@
 //! How far a phrase was read.
 
+use crate::calling::Calling;
 use crate::task::{Glyph, Numerals, Part, Test};
 use conditionals::SkipScan;
-use macro_args::ArgScan;
 use scan_nums::{IntScan, Number};
-use tokens::{Macro, Token};
+use tokens::Token;
+
+/// A text that is read: its tokens so far, and how many of its braces are open.
+#[derive(Drop)]
+pub struct Gathered {
+    pub expanded: bool,
+    pub tokens: Vec<Token>,
+    pub depth: u64,
+}
 
 /// How far a phrase was read, and what it keeps of what was taken.
 #[derive(Drop)]
 pub enum Progress {
-    /// A whole number, with the last token that was taken.
-    Number {
-        scan: IntScan,
-        last: Option<Token>,
-    },
+    /// A whole number.
+    Number(IntScan),
     /// A text that is passed over, by the number of the `\or` that is sought, and how many of its tokens were taken.
     Passing {
         sought: u32,
         scan: SkipScan,
         taken: u64,
     },
-    /// A macro's call, by its name, with what was read of its arguments.
-    Call {
-        name: Token,
-        called: Macro,
-        scan: ArgScan,
-    },
+    /// A macro's call.
+    Call(Calling),
     /// What is taken next is the last thing; then a token is put back.
     Finishing {
         back: Option<Token>,
@@ -38,8 +39,12 @@ pub enum Progress {
         first: Token,
     },
     /// `\the`, in front of what it shows, and of the number of a token register.
-    Value,
-    ListNumber,
+    Value {
+        straight: bool,
+    },
+    ListNumber {
+        straight: bool,
+    },
     /// In front of the number that is put in front in digits.
     Digits(Numerals),
     /// In front of the number of a register.
@@ -125,4 +130,10 @@ pub enum Progress {
     },
     /// `\input`, in front of what the name tells.
     Named,
+    /// In front of the left brace of a text; in the text; and in front of what an expansion in it tells.
+    TextStart {
+        expanded: bool,
+    },
+    Gathering(Gathered),
+    Inserting(Gathered),
 }

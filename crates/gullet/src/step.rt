@@ -5,8 +5,9 @@ ghost use Rattle.std.specs.Prelude.{◌≡◌, ◌==◌, [], ◌∷◌, List, Op
 ghost use Rattle.scan_nums.specs.Number.{first_number};
 ghost use Rattle.scan_nums.specs.Starts.{is_space};
 ghost use Rattle.gullet.specs.Progress.{rest, rest_behind, WhileOpen, Steps, is_plain};
-ghost use Rattle.gullet.specs.Wants.{Taken, done, only, number_told, level_told, word_told, goes_on, holds_told, is_odd, quantity, the_value, the_primitive, the_register, test_want, is_relax, may_be_marked, glyph_of, glyph_if, alike, first_by, second_by, cases_before, is_reached, one_less, case_of, cases_want, text_told, second_want, relation_of, holds, decided, false_want, to_fi_want, byte_of, name_by, name_from, letter_of, file_by, file_from, is_end_of_name};
+ghost use Rattle.gullet.specs.Wants.{Taken, done, only, number_told, level_told, word_told, goes_on, holds_told, is_odd, quantity, the_value, the_primitive, the_register, register_list_want, parameter_list_want, test_want, is_relax, may_be_marked, glyph_of, glyph_if, alike, first_by, second_by, cases_before, is_reached, one_less, case_of, cases_want, text_told, second_want, relation_of, holds, decided, false_want, to_fi_want, byte_of, name_by, name_from, letter_of, file_by, file_from, is_end_of_name};
 
+use crate::gathering::{gather, insert, text_start};
 use crate::meanings::{expansion, is_looked_at};
 use crate::progress::Progress;
 use crate::task::{Act, Glyph, Numerals, Part, Task, Test, Told, Want};
@@ -20,8 +21,13 @@ pub fn number_told(told: &Told) -> Number
 {
     match told {
         Told::Number(number) => *number,
-        Told::Done | Told::Word(_) | Told::Level(_) | Told::GoOn | Told::Text(_) | Told::Holds(_) =>
-            Number::Int(0),
+        Told::Done
+        | Told::Word(_)
+        | Told::Level(_)
+        | Told::GoOn
+        | Told::Text(_)
+        | Told::Holds(_)
+        | Told::Tokens(_) => Number::Int(0),
     }
 }
 
@@ -36,7 +42,8 @@ fn level_told(told: &Told) -> u32
         | Told::Word(_)
         | Told::GoOn
         | Told::Text(_)
-        | Told::Holds(_) => 0,
+        | Told::Holds(_)
+        | Told::Tokens(_) => 0,
     }
 }
 
@@ -51,7 +58,8 @@ fn word_told(told: &Told) -> u8
         | Told::Level(_)
         | Told::GoOn
         | Told::Text(_)
-        | Told::Holds(_) => 0,
+        | Told::Holds(_)
+        | Told::Tokens(_) => 0,
     }
 }
 
@@ -66,7 +74,8 @@ fn goes_on(told: &Told) -> bool
         | Told::Word(_)
         | Told::Level(_)
         | Told::Text(_)
-        | Told::Holds(_) => false,
+        | Told::Holds(_)
+        | Told::Tokens(_) => false,
     }
 }
 
@@ -81,12 +90,13 @@ fn holds_told(told: &Told) -> bool
         | Told::Word(_)
         | Told::Level(_)
         | Told::GoOn
-        | Told::Text(_) => false,
+        | Told::Text(_)
+        | Told::Tokens(_) => false,
     }
 }
 
 /// The text that is told, without bytes where none is.
-fn text_told(alloc: Global, told: Told) -> Text
+pub fn text_told(alloc: Global, told: Told) -> Text
     ensures { result ≡ text_told told }
 {
     match told {
@@ -96,7 +106,8 @@ fn text_told(alloc: Global, told: Told) -> Text
         | Told::Word(_)
         | Told::Level(_)
         | Told::GoOn
-        | Told::Holds(_) => Text::new(Vec::new(alloc)),
+        | Told::Holds(_)
+        | Told::Tokens(_) => Text::new(Vec::new(alloc)),
     }
 }
 
@@ -115,7 +126,7 @@ fn finished() -> (Progress, Want)
 }
 
 /// Something is done, and that is all.
-fn last_act(act: Act) -> (Progress, Want)
+pub fn last_act(act: Act) -> (Progress, Want)
     ensures progress { result.0 ≡ Progress.Finishing Option.None }
     ensures want { result.1 ≡ Want.Act act }
 {
@@ -137,8 +148,7 @@ pub fn step(
     ensures plain { IfOk result (λ r. is_plain r.0 ≡ true) }
 {
     match progress {
-        Progress::Number { .. } | Progress::Passing { .. } | Progress::Call { .. } =>
-            unreachable!(),
+        Progress::Number(_) | Progress::Passing { .. } | Progress::Call(_) => unreachable!(),
         Progress::Finishing { back } => Ok((
             Progress::Telling,
             Want::Gives {
@@ -149,8 +159,8 @@ pub fn step(
         Progress::Telling => Ok((Progress::Telling, Want::Gives { told, back: None })),
         Progress::ExpandFirst => Ok((Progress::ExpandSecond { first: token }, Want::Raw)),
         Progress::ExpandSecond { first } => expand_second(first, token, meaning),
-        Progress::Value => Ok(value(token, meaning)),
-        Progress::ListNumber => Ok(last_act(Act::PutRegister(number_told(&told)))),
+        Progress::Value { straight } => Ok(value(straight, token, meaning)),
+        Progress::ListNumber { straight } => Ok(register_list(straight, number_told(&told))),
         Progress::Digits(numerals) => Ok(last_act(Act::Digits {
             numerals,
             number: number_told(&told),
@@ -229,6 +239,9 @@ pub fn step(
         Progress::FileStart => file_start(alloc, token, meaning),
         Progress::File { text } => file(text, token, meaning),
         Progress::Named => Ok(last_act(Act::ReadFile(text_told(alloc, told)))),
+        Progress::TextStart { expanded } => Ok(text_start(alloc, expanded, meaning)),
+        Progress::Gathering(text) => gather(alloc, text, token, meaning),
+        Progress::Inserting(text) => insert(text, told),
     }
 }
 
@@ -270,40 +283,69 @@ fn given(number: i32) -> (Progress, Want)
 }
 
 /// What `\the` shows where it stands in front of this token.
-fn value(token: Token, meaning: &Meaning) -> (Progress, Want)
-    ensures want { result.1 ≡ the_value token meaning.now [] }
-    ensures steps { WhileOpen result.1 ((x : Taken) (xs : List Taken) → the_value token meaning.now (x ∷ xs) ≡ rest_behind result.0 x xs) }
+fn value(straight: bool, token: Token, meaning: &Meaning) -> (Progress, Want)
+    ensures want { result.1 ≡ the_value straight token meaning.now [] }
+    ensures steps { WhileOpen result.1 ((x : Taken) (xs : List Taken) → the_value straight token meaning.now (x ∷ xs) ≡ rest_behind result.0 x xs) }
     ensures plain { is_plain result.0 ≡ true }
 {
     match meaning {
-        Meaning::Primitive(code) => value_of_primitive(token, *code),
+        Meaning::Primitive(code) => value_of_primitive(straight, token, *code),
         Meaning::CharDef(byte) => given(i32::from(*byte)),
         Meaning::MathCharDef(number) => given(i32::from(*number)),
-        Meaning::Register { kind, number } => value_of_register(token, *kind, *number),
+        Meaning::Register { kind, number } => value_of_register(straight, token, *kind, *number),
         Meaning::Undefined | Meaning::Macro(_) | Meaning::Char { .. } | Meaning::Font(_) =>
             last_act(Act::CantUse(token)),
     }
 }
 
-fn value_of_primitive(token: Token, code: u16) -> (Progress, Want)
-    ensures want { result.1 ≡ the_primitive token code [] }
-    ensures steps { WhileOpen result.1 ((x : Taken) (xs : List Taken) → the_primitive token code (x ∷ xs) ≡ rest_behind result.0 x xs) }
+/// The list of a token register goes straight into a text, or is put in front.
+fn register_list(straight: bool, number: Number) -> (Progress, Want)
+    ensures want { result.1 ≡ register_list_want straight number [] }
+    ensures steps { WhileOpen result.1 ((x : Taken) (xs : List Taken) → register_list_want straight number (x ∷ xs) ≡ rest_behind result.0 x xs) }
+    ensures plain { is_plain result.0 ≡ true }
+{
+    if straight {
+        (Progress::Telling, Want::Act(Act::TellRegister(number)))
+    } else {
+        last_act(Act::PutRegister(number))
+    }
+}
+
+/// The same of the list of a token parameter.
+fn parameter_list(straight: bool, code: u16) -> (Progress, Want)
+    ensures want { result.1 ≡ parameter_list_want straight code [] }
+    ensures steps { WhileOpen result.1 ((x : Taken) (xs : List Taken) → parameter_list_want straight code (x ∷ xs) ≡ rest_behind result.0 x xs) }
+    ensures plain { is_plain result.0 ≡ true }
+{
+    if straight {
+        (Progress::Telling, Want::Act(Act::TellParameter(code)))
+    } else {
+        last_act(Act::PutParameter(code))
+    }
+}
+
+fn value_of_primitive(straight: bool, token: Token, code: u16) -> (Progress, Want)
+    ensures want { result.1 ≡ the_primitive straight token code [] }
+    ensures steps { WhileOpen result.1 ((x : Taken) (xs : List Taken) → the_primitive straight token code (x ∷ xs) ≡ rest_behind result.0 x xs) }
     ensures plain { is_plain result.0 ≡ true }
 {
     if is_looked_at(code) {
         shown(code, None)
     } else if code == codes::TOKS {
-        (Progress::ListNumber, Want::Inner(Task::WholeNumber))
+        (
+            Progress::ListNumber { straight },
+            Want::Inner(Task::WholeNumber),
+        )
     } else if codes::OUTPUT <= code && code <= codes::ERRHELP {
-        last_act(Act::PutParameter(code))
+        parameter_list(straight, code)
     } else {
         last_act(Act::CantUse(token))
     }
 }
 
-fn value_of_register(token: Token, kind: RegKind, place: u16) -> (Progress, Want)
-    ensures want { result.1 ≡ the_register token kind place [] }
-    ensures steps { WhileOpen result.1 ((x : Taken) (xs : List Taken) → the_register token kind place (x ∷ xs) ≡ rest_behind result.0 x xs) }
+fn value_of_register(straight: bool, token: Token, kind: RegKind, place: u16) -> (Progress, Want)
+    ensures want { result.1 ≡ the_register straight token kind place [] }
+    ensures steps { WhileOpen result.1 ((x : Taken) (xs : List Taken) → the_register straight token kind place (x ∷ xs) ≡ rest_behind result.0 x xs) }
     ensures plain { is_plain result.0 ≡ true }
 {
     match kind {
@@ -312,7 +354,7 @@ fn value_of_register(token: Token, kind: RegKind, place: u16) -> (Progress, Want
         RegKind::Skip => shown(codes::SKIP, Some(place)),
         RegKind::Muskip => shown(codes::MUSKIP, Some(place)),
         RegKind::Box => last_act(Act::CantUse(token)),
-        RegKind::Toks => last_act(Act::PutRegister(Number::Int(i32::from(place)))),
+        RegKind::Toks => register_list(straight, Number::Int(i32::from(place))),
     }
 }
 
@@ -343,7 +385,7 @@ fn opened(test: Test, level: u32) -> (Progress, Want)
 }
 
 /// Whether a meaning is that of `\relax`.
-fn is_relax(meaning: &Meaning) -> bool
+pub fn is_relax(meaning: &Meaning) -> bool
     ensures { result ≡ is_relax meaning.now }
 {
     match meaning {
@@ -637,7 +679,7 @@ fn relation(level: u32, first: Number, token: Token, meaning: &Meaning) -> (Prog
 
 /// Whether a token is a space, also one that a name stands for.
 #[tactic(auto, using(asking::specs::Asked::asking), unfolding(scan_nums::specs::Starts::is_space))]
-fn is_space(meaning: &Meaning) -> bool
+pub fn is_space(meaning: &Meaning) -> bool
     ensures { result ≡ is_space meaning.now }
 {
     match meaning {

@@ -134,8 +134,8 @@ pub enum Task {
     Call { name: Token, called: Macro },
     /// `\expandafter`.
     ExpandAfter,
-    /// `\the`.
-    The,
+    /// `\the`. The tokens of a list go straight into an expanded text, or else are put in front.
+    The { straight: bool },
     /// `\number` or `\romannumeral`.
     NumberText(Numerals),
     /// A condition, up to the beginning of the chosen branch.
@@ -150,6 +150,8 @@ pub enum Task {
     Input(Token),
     /// The name of a file.
     FileName,
+    /// A text in braces, whose tokens are taken as they stand, or expanded.
+    Text { expanded: bool },
     /// A name of which one thing is done.
     Simple(Simple),
 }
@@ -168,6 +170,7 @@ pub enum Told {
     Text(Text),
     /// Whether what was asked is so.
     Holds(bool),
+    Tokens(TokenList),
 }
 
 /// What is done for a phrase.
@@ -195,6 +198,10 @@ pub enum Act {
     PutRegister(Number),
     /// The list of a token parameter is put in front, by the code of its name.
     PutParameter(u16),
+    /// The list of the token register of this number is told.
+    TellRegister(Number),
+    /// The list of a token parameter is told, by the code of its name.
+    TellParameter(u16),
     /// A token that may not stand behind `\the` ends the run.
     CantUse(Token),
     /// A number, a dimension or a glue is put in front, written so.
@@ -212,6 +219,8 @@ pub enum Act {
         name: Token,
         refusal: Refusal,
     },
+    /// A list would have too many tokens, which ends the run.
+    Full,
     /// A condition is opened.
     Open(i8),
     /// The branch in front of `\else` is read of the condition that is so many deep.

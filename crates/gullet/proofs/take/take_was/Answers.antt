@@ -2,6 +2,7 @@
 use Rattle.std.proofs.Common.{IfOk, sym, subst}
 use Rattle.std.proofs.lemmas.Result.{IfOk-weaker}
 use Rattle.gullet.specs.declared.progress.Progress.{Progress}
+use Rattle.gullet.specs.declared.progress.Progress.TheVariants.{Number}
 use Rattle.gullet.specs.Progress.{TakesUp}
 use Rattle.gullet.specs.Wants.{Was}
 use Rattle.gullet.proofs.PlainSteps.{was_is_plain, step_takes_up}
@@ -9,10 +10,10 @@ use Rattle.gullet.proofs.take.take_was.Goals as goal
 
 pub returns-in-Number : goal.returns-in-Number
 returns-in-Number c =
-    let T : Progress → Type 0 = λ p. IfOk c.resume.result (λ r. TakesUp p (Was c.args.told) r.0 r.1) in
-    subst T (sym c.in-Number.is) (IfOk-weaker c.resume.result _ _ (λ r takes. takes c.in-Number.last c.args.told) c.resume.ensures)
+    let T : Progress → Type 0 = λ p. IfOk c.resume.result (λ want. TakesUp p (Was c.args.told) (Number c.resume.new.scan) want) in
+    subst T (sym c.in-Number.is) (IfOk-weaker c.resume.result _ _ (λ want takes. takes c.args.told) c.resume.ensures)
 
 pub returns-in_default : goal.returns-in_default
 returns-in_default c =
-    step_takes_up c.args.progress (Was c.args.told) c.step.result (was_is_plain c.args.progress c.requires c.in_default.not-Number) c.step.ensures.want
-    c.step.ensures.steps c.step.ensures.plain
+    step_takes_up c.args.progress.now c.take_plain.new.progress (Was c.args.told) c.take_plain.result
+    (was_is_plain c.args.progress.now c.requires c.in_default.not-Number) c.take_plain.ensures.want c.take_plain.ensures.steps c.take_plain.ensures.plain

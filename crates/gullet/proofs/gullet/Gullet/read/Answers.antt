@@ -98,11 +98,11 @@ turns-preserved g c =
       | in-Token+in-Ok-take w ↦
           rw (w.below-is, w.context-is, w.progress-is, w.want-is)
           (reads_token {whole = whole} c.turns.invariant less mid u (Tok w.in-Token.token (taken_meaning env w.in-Token.of w.in-Token.noexpand))
-          w.in-Ok-take.next.0 w.in-Ok-take.next.1 (rw w.in-Token.is at c.in-Ok-turn.ensures.fits)
+          w.take.new.progress w.in-Ok-take.next (rw w.in-Token.is at c.in-Ok-turn.ensures.fits)
           (rw w.in-Token.is at c.in-Ok-turn.ensures.does) w.in-Ok-take.ensures)
       | in-Told+in-Ok-take_was w ↦
           rw (w.below-is, w.context-is, w.progress-is, w.want-is)
-          (reads_told {whole = whole} c.turns.invariant less mid u (Was w.in-Told.told) w.in-Ok-take_was.next.0 w.in-Ok-take_was.next.1
+          (reads_told {whole = whole} c.turns.invariant less mid u (Was w.in-Told.told) w.take_was.new.progress w.in-Ok-take_was.next
           (rw w.in-Told.is at c.in-Ok-turn.ensures.fits) (rw w.in-Told.is at c.in-Ok-turn.ensures.does) w.in-Ok-take_was.ensures)
       | in-Again w ↦
           rw (w.below-is, w.context-is, w.progress-is, w.want-is)
@@ -120,6 +120,6 @@ turns-preserved g c =
           (rw w.in-Aside.is at c.in-Ok-turn.ensures.does) (w.in-Ok-enter_inside-2.ensures.does u) w.in-Ok-enter_inside-2.ensures.begins)
       | in-Ends+in-Some+in-Ok-resume w ↦
           rw (w.below-is, w.context-is, w.progress-is, w.want-is)
-          (reads_out {whole = whole} c.turns.invariant less mid u w.in-Ends.told w.in-Some.frame w.pop.new.self w.in-Ok-resume.next.0 w.in-Ok-resume.next.1
+          (reads_out {whole = whole} c.turns.invariant less mid u w.in-Ends.told w.in-Some.frame w.pop.new.self w.resume.new.progress w.in-Ok-resume.next
           w.in-Some.ensures (rw w.in-Ends.is at c.in-Ok-turn.ensures.does) w.in-Ok-resume.ensures)
     ]
