@@ -7,6 +7,7 @@ use world::HonestWorld;
 
 mod arguments;
 mod branches;
+mod conditions;
 mod depth;
 mod files;
 mod macros;
@@ -14,7 +15,9 @@ mod names;
 mod numbers;
 mod raw;
 mod reading;
+mod shown;
 mod tex;
+mod texts;
 
 /// A file by its name, and its bytes.
 type File = (&'static [u8], &'static [u8]);

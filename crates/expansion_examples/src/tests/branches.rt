@@ -3,8 +3,8 @@ use super::leaves;
 use super::macros::Definition;
 use std::test::Fail;
 
-/// A macro that calls itself behind a lone `\fi`.
-const MACROS: &[Definition] = &[(b"l", b"", b"\\fi\\l")];
+/// A macro that calls itself behind a lone `\fi`, and an outer one.
+const MACROS: &[Definition] = &[(b"l", b"", b"\\fi\\l"), (b"o", b"", b"z")];
 
 /// A line, what expansion leaves of it, and how many troubles it passes over.
 const ROWS: &[(&[u8], &[u8], u64)] = &[
@@ -36,6 +36,16 @@ const ROWS: &[(&[u8], &[u8], u64)] = &[
     (b"\\ifnum1=2 a\\else b\\else c\\fi d", b"bcd", 1),
     (b"\\ifnum1a", b"! Missing relation", 0),
     (b"\\ifnum1=2 a", b"! No \\end found", 0),
+    (
+        b"\\ifnum1=2 \\o\\fi a",
+        b"! Forbidden control sequence found: \\o",
+        0,
+    ),
+    (
+        b"\\ifnum1=1 \\o\\else \\o\\fi a",
+        b"z! Forbidden control sequence found: \\o",
+        0,
+    ),
     // the hundredth trouble ends the run
     (b"\\l", b"! Extra \\fi", 99),
 ];

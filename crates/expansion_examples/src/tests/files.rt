@@ -9,6 +9,7 @@ const FILES: &[File] = &[
     (b"h.tex", b"\\input g.tex e"),
     (b"self.tex", b"\\input self.tex x"),
     (b"open.tex", b"\\b y"),
+    (b"skip.tex", b"\\iffalse a"),
 ];
 
 const MACROS: &[Definition] = &[(b"b", b"#1.", b"(#1)")];
@@ -23,8 +24,9 @@ const ROWS: &[(&[u8], &[u8])] = &[
     (b"\\ifnum\\input f.tex =23 y\\fi z", b"yz"),
     (b"\\input none x", b"! File not found: none.tex"),
     (b"\\input self x", b"! text input levels=15"),
-    // no file ends in an argument
+    // no file ends in an argument, nor in a branch that is passed over
     (b"\\input open.tex z.", b"! File ended while scanning"),
+    (b"\\input skip.tex b\\fi c", b"! File ended while scanning"),
 ];
 
 #[test]

@@ -11,9 +11,9 @@ use std::marker::Brand;
 use std::sync::ledger::{Blank, Ledger};
 use std::test::Fail;
 use steps::Steps;
-use tokens::{Macro, Meaning, NameId};
+use tokens::{Macro, Meaning, NameId, RegKind, TokenList};
 
-/// A macro: its name, its parameter text and its body. The macro `o` is outer.
+/// A macro: its name, its parameter text and its body. The macro `o` is outer, and `p` is protected.
 pub type Definition = (&'static [u8], &'static [u8], &'static [u8]);
 
 /// The characters that are to have another category than INITEX gives them.
@@ -52,6 +52,15 @@ fn set_categories<L: Ledger>(env: &mut Env, steps: &mut Steps<L>) -> Result<(), 
     Ok(())
 }
 
+/// Puts a number into a register.
+fn set_register<L: Ledger>(env: &mut Env, steps: &mut Steps<L>) -> Result<(), AllocError> {
+    let key = Key::Register {
+        kind: RegKind::Count,
+        number: 9,
+    };
+    env.assign(key, Value::Number(1234), Scope::Global, steps)
+}
+
 /// A macro of these texts.
 fn meaning_of(tex: &mut Tex, definition: &Definition) -> Result<Meaning, Fail>
     ensures { IfOk result (λ meaning. (extended : Bool) → IsTrue (names_in_mode extended meaning)) }
@@ -60,7 +69,7 @@ fn meaning_of(tex: &mut Tex, definition: &Definition) -> Result<Meaning, Fail>
     Ok(Meaning::Macro(Macro {
         long: false,
         outer: name == b"o".as_slice(),
-        guarded: false,
+        guarded: name == b"p".as_slice(),
         params: tokens_of(tex, params)?,
         body: tokens_of(tex, body)?,
     }))
@@ -83,6 +92,20 @@ fn give<L: Ledger>(
     )
 }
 
+/// Names that mean a character, with its category.
+const NAMED: &[(&[u8], u8, u8)] = &[(b"bgroup", 1, b'{'), (b"hash", 6, b'#')];
+
+/// Gives a name the meaning of a character.
+fn name_character<L: Ledger>(
+    tex: &mut Tex,
+    character: &(&'static [u8], u8, u8),
+    steps: &mut Steps<L>,
+) -> Result<(), AllocError> {
+    let (name, cat, byte) = *character;
+    let id = tex.name(name)?;
+    give(&mut tex.site.env, id, Meaning::Char { cat, byte }, steps)
+}
+
 /// Defines one macro.
 fn define_one<L: Ledger>(
     tex: &mut Tex,
@@ -103,13 +126,37 @@ fn define_all<L: Ledger>(tex: &mut Tex, macros: &[Definition], blank: Blank) -> 
     let mut steps = Steps::<L>::new(blank);
     end_lines_with_nothing(&mut tex.site.env, &mut steps)?;
     set_categories(&mut tex.site.env, &mut steps)?;
+    set_register(&mut tex.site.env, &mut steps)?;
+    for character in NAMED {
+        name_character(tex, character, &mut steps)?;
+    }
     for definition in macros {
         define_one(tex, definition, &mut steps)?;
     }
     Ok(())
 }
 
-/// Gives the characters their categories, has nothing put behind a line, and defines the macros.
+/// Gives the characters their categories, has nothing put behind a line, sets `\count9` to 1234, and defines the macros.
 pub fn define(tex: &mut Tex, macros: &[Definition]) -> Result<(), Fail> {
     define_all::<Brand>(tex, macros, Blank::new(1))
+}
+
+fn fill_counted<L: Ledger>(env: &mut Env, list: TokenList, blank: Blank) -> Result<(), AllocError>
+    requires name { blank.name ≡ L.name }
+    requires parts { blank.parts ≡ L.parts }
+    requires some { 0 < L.parts }
+{
+    let mut steps = Steps::<L>::new(blank);
+    let key = Key::Register {
+        kind: RegKind::Toks,
+        number: 0,
+    };
+    env.assign(key, Value::Tokens(list), Scope::Global, &mut steps)
+}
+
+/// Puts a text into the register `\toks0`.
+pub fn fill(tex: &mut Tex, text: &[u8]) -> Result<(), Fail> {
+    let list = tokens_of(tex, text)?;
+    fill_counted::<Brand>(&mut tex.site.env, list, Blank::new(1))?;
+    Ok(())
 }

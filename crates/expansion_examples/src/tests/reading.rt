@@ -186,3 +186,60 @@ pub fn number_and_rest<W: World>(
         Err(stop) => Ok((None, shown(tex.alloc, stop)?)),
     }
 }
+
+fn text_by<L: Library>(tex: &mut Tex, library: &mut L, expanded: bool) -> Result<TokenList, Stop> {
+    if expanded {
+        tex.gullet.expanded_text(&mut tex.site, library)
+    } else {
+        tex.gullet.take_general_text(&mut tex.site, library)
+    }
+}
+
+fn text_over<F: Start, W: World>(
+    tex: &mut Tex,
+    world: &mut W,
+    expanded: bool,
+) -> Result<TokenList, Stop>
+    requires told { W.told world.old ≡ F.told }
+{
+    let mut library = Known::<F, &mut W>::new(world);
+    text_by(tex, &mut library, expanded)
+}
+
+fn text<W: World>(tex: &mut Tex, world: &mut W, expanded: bool) -> Result<TokenList, Stop> {
+    text_over::<Brand, W>(tex, world, expanded)
+}
+
+/// The text in braces that is taken, as it stands or expanded, or the trouble in which it ends.
+pub fn text_shown<W: World>(
+    tex: &mut Tex,
+    world: &mut W,
+    expanded: bool,
+) -> Result<Vec<u8>, AllocError> {
+    match text(tex, world, expanded) {
+        Ok(list) => text_of(tex, list.as_slice()),
+        Err(stop) => text_with_end(tex, &[], stop),
+    }
+}
+
+fn name_over<F: Start, W: World>(tex: &mut Tex, world: &mut W) -> Result<Vec<u8>, Stop>
+    requires told { W.told world.old ≡ F.told }
+{
+    let mut library = Known::<F, &mut W>::new(world);
+    tex.gullet.take_file_name(&mut tex.site, &mut library)
+}
+
+fn name<W: World>(tex: &mut Tex, world: &mut W) -> Result<Vec<u8>, Stop> {
+    name_over::<Brand, W>(tex, world)
+}
+
+/// The name of a file that is taken, or the trouble in which it ends, and what expansion leaves of the rest.
+pub fn name_and_rest<W: World>(
+    tex: &mut Tex,
+    world: &mut W,
+) -> Result<(Vec<u8>, Vec<u8>), AllocError> {
+    match name(tex, world) {
+        Ok(name) => Ok((name, expanded(tex, world)?)),
+        Err(stop) => Ok((text_with_end(tex, &[], stop)?, Vec::new(tex.alloc))),
+    }
+}

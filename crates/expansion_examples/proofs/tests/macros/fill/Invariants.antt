@@ -1,0 +1,5 @@
+-- The ledger in which the assignment counts.
+use Rattle.expansion_examples.proofs.tests.macros.fill.Given as goal
+
+abbrev pub ghosts-fill_counted : goal.ghosts-fill_counted
+ghosts-fill_counted a = record { name = a.blank.name; parts = a.blank.parts }
