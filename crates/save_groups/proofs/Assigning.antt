@@ -9,7 +9,8 @@ use Rattle.save_groups.specs.declared.entry.Entry.{Entry}
 use Rattle.save_groups.specs.declared.save.Save.{Save}
 use Rattle.save_groups.specs.Environments.{Environment, updated, Copies, level_of}
 use Rattle.save_groups.specs.Assignment.{needs_save, assigned_here, assigned_globally, assigned_locally, changes_nothing}
-use Rattle.save_groups.specs.Entries.{Entries, at}
+use Rattle.save_groups.specs.declared.current.Current.{Current}
+use Rattle.save_groups.specs.InForce.{at}
 use Rattle.save_groups.specs.Standing.{Store, Mark, copies_of}
 use Rattle.save_groups.specs.Kept.{AreKept}
 use Rattle.save_groups.proofs.Keeping.{kept-outermost, kept-again, kept-saving}
@@ -50,7 +51,7 @@ test-stored s now key level b view number test =
     subst P (sym view) there
 
 -- a global assignment
-pub store-global : (s now : Store) (f : Entries) (key : Key) (value : Value) → s ≡ now
+pub store-global : (s now : Store) (f : Current) (key : Key) (value : Value) → s ≡ now
     → ((other : Key) → at f other ≡ updated key (record { value = value; level = 1 }) (at s.entries) other)
     → copies_of (record s { entries = f }) ≡ assigned_globally key value (copies_of now)
 unfolding copies_of
@@ -79,7 +80,7 @@ kept-unsaved (mark ∷ outer) saves env key value level test number h =
     let deep : level ≡ length outer + 1 + 1 = omega (arith, number) in
     kept-again mark outer saves env key (record { value = value; level = level }) deep (is_again outer level (env key).level test deep ∙ deep) h
 
-pub store-unsaved : (s now : Store) (f : Entries) (key : Key) (value : Value) (level : ℕ) → s ≡ now
+pub store-unsaved : (s now : Store) (f : Current) (key : Key) (value : Value) (level : ℕ) → s ≡ now
     → (nat_lt 1 level && not ((at s.entries key).level == level)) ≡ false → level ≡ length s.groups + 1 → AreKept s.groups s.saves (at s.entries)
     → ((other : Key) → at f other ≡ updated key (record { value = value; level = level }) (at s.entries) other)
     → copies_of (record s { entries = f }) ≡ assigned_here key value (copies_of now)
@@ -116,7 +117,7 @@ kept-saved (mark ∷ outer) saves env key value level test number h =
     let deep : level ≡ length outer + 1 + 1 = omega (arith, number) in
     kept-saving mark outer saves env (save_at key level (env key)) (record { value = value; level = level }) deep deep refl h
 
-pub store-saved : (s now : Store) (f : Entries) (saves : List Save) (key : Key) (value : Value) (level : ℕ) → s ≡ now
+pub store-saved : (s now : Store) (f : Current) (saves : List Save) (key : Key) (value : Value) (level : ℕ) → s ≡ now
     → (nat_lt 1 level && not ((at s.entries key).level == level)) ≡ true → level ≡ length s.groups + 1 → AreKept s.groups s.saves (at s.entries)
     → ((other : Key) → at f other ≡ updated key (record { value = value; level = level }) (at s.entries) other)
     → saves ≡ s.saves ++ save_at key level (at s.entries key) ∷ []

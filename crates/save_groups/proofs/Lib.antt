@@ -1,3 +1,6 @@
+pub mod Cells
+pub mod Naming
+pub mod Held
 pub mod Replaced
 pub mod Starting
 pub mod Reaching

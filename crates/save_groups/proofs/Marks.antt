@@ -8,7 +8,7 @@ use Rattle.save_groups.specs.declared.group.Group.{Group}
 use Rattle.save_groups.specs.declared.save.Save.{Save}
 use Rattle.save_groups.specs.declared.env.Env.TheInside.{Inside}
 use Rattle.save_groups.specs.Environments.{Environment, innermost, with_after}
-use Rattle.save_groups.specs.Entries.{at}
+use Rattle.save_groups.specs.InForce.{at}
 use Rattle.save_groups.specs.Standing.{Store, Mark, copies_of}
 use Rattle.save_groups.specs.Kept.{AreKept, mark_of, marks_of, waiting, store_of}
 use Rattle.save_groups.proofs.Stores.{mark_at, copies_with, copies-after, length-groups_of}

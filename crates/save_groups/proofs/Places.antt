@@ -1,22 +1,21 @@
 -- An entry that is changed in place, at the level that it has: what the store stands for, and what it keeps.
 use Rattle.std.proofs.Common.{◌≡◌, ◌≢◌, ℕ, ◌+◌, ◌<◌, ◌≤◌, inl, inr, List, [], ◌∷◌, length, take, drop, Bool, true, false, refl, ap, sym, ◌∙◌, subst, arith}
-use Rattle.std.specs.Prelude.{◌⊎◌, ◌==◌, ℤ, Option, None, Some, nat_le, if◌then◌else◌, IsTrue}
+use Rattle.std.specs.Prelude.{◌⊎◌, ◌==◌, ℤ, Option, None, Some, nat_le, if◌then◌else◌}
 use Rattle.std.proofs.Math.Path.{fun_ext}
-use Rattle.std.proofs.lemmas.Bool.{eqb-true, eqb-false, false≢true, leb-true, le-leb, false_from_ne_true}
+use Rattle.std.proofs.lemmas.Bool.{eqb-true, eqb-false, leb-true, le-leb, false_from_ne_true}
 use Rattle.nodes.specs.declared.boxes.BoxNode.{BoxNode}
 use Rattle.nodes.specs.declared.node.Node.{Node}
 use Rattle.tokens.specs.declared.meaning.RegKind.TheVariants.{Box}
 use Rattle.save_groups.specs.declared.key.Key.{Key}
 use Rattle.save_groups.specs.declared.key.Key.TheVariants.{Register}
 use Rattle.save_groups.specs.declared.value.Value.{Value}
-use Rattle.save_groups.specs.declared.value.Value.TheVariants as value
 use Rattle.save_groups.specs.declared.entry.Entry.{Entry}
 use Rattle.save_groups.specs.declared.save.Save.{Save}
 use Rattle.save_groups.specs.Keys.{same_key}
-use Rattle.save_groups.specs.Values.{is_in_mode}
 use Rattle.save_groups.specs.Environments.{Environment, updated, OpenGroup, Copies}
 use Rattle.save_groups.specs.InPlace.{refilled, refilled_from, in_place, box_of, sized_value, resized, resized_by, resized_here, resized_here_by}
-use Rattle.save_groups.specs.Entries.{Entries, at}
+use Rattle.save_groups.specs.declared.current.Current.{Current}
+use Rattle.save_groups.specs.InForce.{at}
 use Rattle.save_groups.specs.Standing.{Store, Mark, undone, groups_of, copies_of}
 use Rattle.save_groups.specs.Kept.{is_saved, AreKept, IsInMode}
 use Rattle.save_groups.proofs.KeyLemmas.{updated-at, updated-same, updated-other, same_key-equal}
@@ -165,7 +164,7 @@ kept-refilled (mark ∷ outer) saves env key value h = (
 
 -- ---- the two calls
 
-pub store-refilled : (s now : Store) (f : Entries) (key : Key) (value : Value) → s ≡ now → AreKept s.groups s.saves (at s.entries)
+pub store-refilled : (s now : Store) (f : Current) (key : Key) (value : Value) → s ≡ now → AreKept s.groups s.saves (at s.entries)
     → ((other : Key) → at f other ≡ refilled key value (at s.entries) other)
     → copies_of (record s { entries = f }) ≡ in_place key value (copies_of now)
 unfolding copies_of
@@ -197,7 +196,7 @@ mode-resized extended saves env f number part size changed h = by_box (box_of nu
     by_box (Some b) changed =
         mode-changed extended saves env f (Register Box number) (refill (Register Box number) (sized_value part size b) env) refl changed h
 
-pub store-resized : (s now : Store) (f : Entries) (number part : ℕ) (size : ℤ) → s ≡ now → AreKept s.groups s.saves (at s.entries)
+pub store-resized : (s now : Store) (f : Current) (number part : ℕ) (size : ℤ) → s ≡ now → AreKept s.groups s.saves (at s.entries)
     → ((other : Key) → at f other ≡ resized_here number part size (at s.entries) other)
     → copies_of (record s { entries = f }) ≡ resized number part size (copies_of now)
 unfolding copies_of

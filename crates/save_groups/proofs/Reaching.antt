@@ -1,6 +1,6 @@
 -- Entries by how far a table reaches: a box register behind the end is void, and a code is found in its row.
 use Rattle.std.proofs.Common.{◌≡◌, ℕ, zero, suc, ◌-◌, ◌<◌, ◌≤◌, length, Bool, true, false, refl, ap, sym, ◌∙◌, subst, arith}
-use Rattle.std.specs.Prelude.{ℤ, Option, None, Some, List, nat_lt, not, ◌&&◌, ◌||◌, IsTrue, slice_index_or, if◌then◌else◌}
+use Rattle.std.specs.Prelude.{ℤ, Option, None, Some, List, nat_lt, ◌||◌, IsTrue, slice_index_or, if◌then◌else◌}
 use Rattle.std.proofs.lemmas.Bool.{and_parts, lt-ltb, ltb-true, false_from_ne_true, false≢true}
 use Rattle.nodes.specs.declared.boxes.BoxNode.{BoxNode}
 use Rattle.nodes.specs.declared.node.Node.{Node}
@@ -12,7 +12,7 @@ use Rattle.save_groups.specs.declared.value.Value.TheVariants as value
 use Rattle.save_groups.specs.declared.entry.Entry.{Entry}
 use Rattle.save_groups.specs.Keys.{same_key}
 use Rattle.save_groups.specs.StartValues.{start_code}
-use Rattle.save_groups.specs.Environments.{Environment, updated}
+use Rattle.save_groups.specs.Environments.{Environment}
 use Rattle.save_groups.specs.InPlace.{refilled, box_in, box_of, has_box, is_box, can_swap, resized_here, resized_here_by}
 use Rattle.save_groups.specs.Entries.{Entries, at, as_value, fresh, entry_at, code_place, has_room}
 use Rattle.save_groups.proofs.KeyLemmas.{same_key-equal, updated-same, updated-other}

@@ -12,7 +12,7 @@ use Rattle.save_groups.specs.declared.entry.Entry.{Entry}
 use Rattle.save_groups.specs.declared.save.Save.{Save}
 use Rattle.save_groups.specs.Environments.{Environment, updated, OpenGroup, Copies, level_of, entered, left, saves_outside, with_after}
 use Rattle.save_groups.specs.Assignment.{saves_made, assigned_here, assigned_globally, with_outside}
-use Rattle.save_groups.specs.Entries.{at}
+use Rattle.save_groups.specs.InForce.{at}
 use Rattle.save_groups.specs.Standing.{Store, Mark, undone, groups_of, copies_of}
 use Rattle.save_groups.specs.Kept.{AreKept}
 use Rattle.save_groups.proofs.Undoing.{undone-global, undone-saved}

@@ -10,7 +10,9 @@ use Rattle.save_groups.specs.declared.env.Env.TheInside.{Inside}
 use Rattle.save_groups.specs.Keys.{same_key, is_key}
 use Rattle.save_groups.specs.Values.{fits, is_in_mode}
 use Rattle.save_groups.specs.Environments.{Environment}
-use Rattle.save_groups.specs.Entries.{Entries, at, has_room}
+use Rattle.save_groups.specs.declared.current.Current.{Current}
+use Rattle.save_groups.specs.InForce.{at, has_room}
+use Rattle.save_groups.specs.Holding.{IsHeldBy, held_in}
 use Rattle.save_groups.specs.Standing.{Store, Mark, undone}
 
 -- whether an entry was saved
@@ -40,7 +42,7 @@ pub record IsInMode (extended : Bool) (saves : List Save) (env : Environment) : 
   pub saved : IsTrue (list_all (λ save. is_in_mode extended save.value) saves)
 
 -- whether a save can be put back where it came from
-abbrev pub can_return : Entries → Save → Bool
+abbrev pub can_return : Current → Save → Bool
 can_return e save = has_room e save.key && (fits save.key save.value && is_key true save.key)
 
 abbrev pub mark_of : Group → Mark
@@ -69,3 +71,5 @@ pub record IsStanding (env : Inside) : Type 0 where
   pub kept : AreKept (marks_of env.groups.items) env.saves.items (at env.current)
   pub returns : IsTrue (list_all (can_return env.current) env.saves.items)
   pub in_mode : IsInMode env.extended env.saves.items (at env.current)
+  -- each register from 256 on is held by the meanings in force and by the saves
+  pub held : IsHeldBy env.current (held_in env.saves.items)

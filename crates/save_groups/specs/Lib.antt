@@ -1,4 +1,4 @@
-pub mod InsideCurrent
+pub mod InsideTables
 pub mod Keys
 pub mod Values
 pub mod StartValues
@@ -7,6 +7,10 @@ pub mod Environments
 pub mod Assignment
 pub mod InPlace
 pub mod Entries
+pub mod InTrees
+pub mod SlotLaws
+pub mod InForce
+pub mod Holding
 pub mod Standing
 pub mod Table
 pub mod Kept

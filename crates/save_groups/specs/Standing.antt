@@ -5,7 +5,8 @@ use Rattle.std.specs.Prelude.{ℕ, ◌==◌, Bool, List, [], ◌∷◌, take, dr
 use Rattle.tokens.specs.declared.token.Token.{Token}
 use Rattle.save_groups.specs.declared.save.Save.{Save}
 use Rattle.save_groups.specs.Environments.{Environment, updated, OpenGroup, Copies}
-use Rattle.save_groups.specs.Entries.{Entries, at}
+use Rattle.save_groups.specs.declared.current.Current.{Current}
+use Rattle.save_groups.specs.InForce.{at}
 
 -- an open group, with the number of saves before it
 pub record Mark : Type 0 where
@@ -16,7 +17,7 @@ pub record Mark : Type 0 where
 
 pub record Store : Type 0 where
   pub extended : Bool
-  pub entries : Entries
+  pub entries : Current
   -- the innermost first
   pub groups : List Mark
   -- the oldest first

@@ -15,7 +15,9 @@ ghost use Rattle.save_groups.specs.Values.{fits, names_in_mode, is_in_mode};
 ghost use Rattle.save_groups.specs.Environments.{beginning, updated, entered, left, innermost, told_of, with_after, level_of, kind_of, saves_inside};
 ghost use Rattle.save_groups.specs.Assignment.{assigned, changes_nothing, needs_save, assigned_locally, assigned_globally, assigned_here};
 ghost use Rattle.save_groups.specs.Standing.{copies_of, undone, restored};
-ghost use Rattle.save_groups.specs.Entries.{at, has_room};
+ghost use Rattle.save_groups.specs.InForce.{at, has_room};
+ghost use Rattle.save_groups.specs.Holding.{with_needed, held_in, IsHeldBy, Holds, HasFewHolders};
+ghost use Rattle.save_groups.specs.Nodes.{named_by};
 ghost use Rattle.save_groups.specs.Kept.{can_return, marks_of, waiting};
 ghost use Rattle.save_groups.specs.declared.key.Key.{Key};
 ghost use Rattle.save_groups.specs.declared.value.Value.TheVariants as kind;
@@ -209,16 +211,16 @@ impl Env {
 
     /// Ends the innermost group: what was assigned locally in it is undone. It takes no memory, and at most two steps
     /// for each save that it undoes.
-    pub fn leave<L: Ledger>(&mut self, _steps: &mut Steps<L>) -> Left
+    pub fn leave<L: Ledger>(&mut self, steps: &mut Steps<L>) -> Left
         requires { IsSome (innermost (copies_of self.old)) }
         ensures left { copies_of self.new ≡ left (copies_of self.old) }
         ensures told { option_map told_of (innermost (copies_of self.old)) ≡ Some result }
-        ensures steps { _steps.new ≤ _steps.old + 2 * length (saves_inside (level_of (copies_of self.old)) (copies_of self.old).saves) }
+        ensures steps { steps.new ≤ steps.old + 2 * length (saves_inside (level_of (copies_of self.old)) (copies_of self.old).saves) }
     {
         let Some(group) = self.groups.pop() else {
             unreachable!()
         };
-        undo(&mut self.current, &mut self.saves, group.first);
+        undo(&mut self.current, &mut self.saves, group.first, steps);
         Left {
             kind: group.kind,
             line: group.line,
@@ -233,42 +235,55 @@ impl Env {
         key: Key,
         value: Value,
         scope: Scope,
-        _steps: &mut Steps<L>,
+        steps: &mut Steps<L>,
     ) -> Result<(), AllocError>
         requires key { IsTrue (is_key (copies_of self.old).extended key) }
         requires kind { IsTrue (fits key value) }
         requires mode { IsTrue (is_in_mode (copies_of self.old).extended value) }
         ensures ok { OnOk result (copies_of self.new ≡ assigned key value scope (copies_of self.old)) }
         ensures err { OnErr result (copies_of self.new ≡ copies_of self.old) }
-        ensures steps { _steps.new ≤ _steps.old + 4 }
+        ensures steps { steps.new ≤ steps.old + 4 }
     {
         match scope {
-            Scope::Local => self.assign_locally(key, value),
-            Scope::Global => self.assign_globally(key, value),
+            Scope::Local => self.assign_locally(key, value, steps),
+            Scope::Global => self.assign_globally(key, value, steps),
         }
     }
 
-    fn assign_globally(&mut self, key: Key, value: Value) -> Result<(), AllocError>
+    fn assign_globally<L: Ledger>(
+        &mut self,
+        key: Key,
+        value: Value,
+        steps: &mut Steps<L>,
+    ) -> Result<(), AllocError>
         requires key { IsTrue (is_key (copies_of self.old).extended key) }
         requires kind { IsTrue (fits key value) }
         requires mode { IsTrue (is_in_mode (copies_of self.old).extended value) }
         ensures ok { OnOk result (copies_of self.new ≡ assigned_globally key value (copies_of self.old)) }
         ensures err { OnErr result (copies_of self.new ≡ copies_of self.old) }
+        ensures steps { steps.new ≤ steps.old + 4 }
     {
-        change(&mut self.current, key, value, GLOBAL_LEVEL)
+        few_holders(&self.current, &self.saves);
+        change(&mut self.current, key, value, GLOBAL_LEVEL, steps)
     }
 
-    fn assign_locally(&mut self, key: Key, value: Value) -> Result<(), AllocError>
+    fn assign_locally<L: Ledger>(
+        &mut self,
+        key: Key,
+        value: Value,
+        steps: &mut Steps<L>,
+    ) -> Result<(), AllocError>
         requires key { IsTrue (is_key (copies_of self.old).extended key) }
         requires kind { IsTrue (fits key value) }
         requires mode { IsTrue (is_in_mode (copies_of self.old).extended value) }
         ensures ok { OnOk result (copies_of self.new ≡ assigned_locally key value (copies_of self.old)) }
         ensures err { OnErr result (copies_of self.new ≡ copies_of self.old) }
+        ensures steps { steps.new ≤ steps.old + 4 }
     {
         if self.changes_nothing(key, &value) {
             return Ok(());
         }
-        self.assign_here(key, value)
+        self.assign_here(key, value, steps)
     }
 
     /// Whether a local assignment is of the very value that stands there, which in extended mode changes nothing.
@@ -281,18 +296,25 @@ impl Env {
     }
 
     /// A local assignment that changes the entry, whatever value stands there. It saves that where it needs to.
-    fn assign_here(&mut self, key: Key, value: Value) -> Result<(), AllocError>
+    fn assign_here<L: Ledger>(
+        &mut self,
+        key: Key,
+        value: Value,
+        steps: &mut Steps<L>,
+    ) -> Result<(), AllocError>
         requires key { IsTrue (is_key (copies_of self.old).extended key) }
         requires kind { IsTrue (fits key value) }
         requires mode { IsTrue (is_in_mode (copies_of self.old).extended value) }
         ensures ok { OnOk result (copies_of self.new ≡ assigned_here key value (copies_of self.old)) }
         ensures err { OnErr result (copies_of self.new ≡ copies_of self.old) }
+        ensures steps { steps.new ≤ steps.old + 4 }
     {
         let level = self.level();
+        few_holders(&self.current, &self.saves);
         if self.needs_save(key) {
-            save_and_change(&mut self.current, &mut self.saves, key, value, level)
+            save_and_change(&mut self.current, &mut self.saves, key, value, level, steps)
         } else {
-            change(&mut self.current, key, value, level)
+            change(&mut self.current, key, value, level, steps)
         }
     }
 
@@ -353,45 +375,71 @@ fn wait(groups: &mut Vec<Group>, token: Token) -> Result<(), AllocError>
     Ok(())
 }
 
-/// Puts a value into an entry, which the tables are made to reach.
-fn change(current: &mut Current, key: Key, value: Value, level: u16) -> Result<(), AllocError>
+/// No register is held so often that it couldn't be held once more: there aren't as many meanings and saves.
+fn few_holders(current: &Current, saves: &Vec<Save>)
+    requires { IsHeldBy current.now (held_in saves.now.items) }
+    ensures few { HasFewHolders current.now }
+    ensures named { Holds current.now [] }
+{
+    current.few_names();
+    let _count = saves.len();
+}
+
+/// Puts a value into an entry, which is made ready for it.
+fn change<L: Ledger>(
+    current: &mut Current,
+    key: Key,
+    value: Value,
+    level: u16,
+    steps: &mut Steps<L>,
+) -> Result<(), AllocError>
     requires key { IsTrue (is_key true key) }
     requires kind { IsTrue (fits key value) }
+    requires few { HasFewHolders current.old }
+    requires named { Holds current.old [] }
     ensures ok { OnOk result ((other : Key) → at current.new other ≡ updated key (record { value = value; level = level }) (at current.old) other) }
     ensures err { OnErr result ((other : Key) → at current.new other ≡ at current.old other) }
     ensures kept { (other : Key) → IsTrue (has_room current.old other) → IsTrue (has_room current.new other) }
+    ensures held { (held : Key → ℕ) → IsHeldBy current.old held → IsHeldBy current.new held }
+    ensures steps { steps.new ≤ steps.old + 4 }
 {
-    current.reserve(key)?;
-    let _replaced = current.replace(key, Entry { value, level });
+    current.prepare(key, &value, steps)?;
+    let old = current.replace(key, Entry { value, level }, steps);
+    current.release(key, &old.value, steps);
     Ok(())
 }
 
 /// The same, with a save of what stood there.
-fn save_and_change(
+fn save_and_change<L: Ledger>(
     current: &mut Current,
     saves: &mut Vec<Save>,
     key: Key,
     value: Value,
     group: u16,
+    steps: &mut Steps<L>,
 ) -> Result<(), AllocError>
     requires key { IsTrue (is_key true key) }
     requires kind { IsTrue (fits key value) }
     requires returns { IsTrue (list_all (can_return current.old) saves.old.items) }
+    requires few { HasFewHolders current.old }
+    requires held { IsHeldBy current.old (held_in saves.old.items) }
     ensures ok { OnOk result ((other : Key) → at current.new other ≡ updated key (record { value = value; level = group }) (at current.old) other) }
     ensures saved { OnOk result (saves.new.items ≡ saves.old.items
         ++ record { key = key; group = group; level = (at current.old key).level; value = (at current.old key).value } ∷ []) }
     ensures err { OnErr result ((other : Key) → at current.new other ≡ at current.old other) }
     ensures unsaved { OnErr result (saves.new.items ≡ saves.old.items) }
     ensures returns { IsTrue (list_all (can_return current.new) saves.new.items) }
+    ensures held { IsHeldBy current.new (held_in saves.new.items) }
+    ensures steps { steps.new ≤ steps.old + 4 }
 {
-    current.reserve(key)?;
-    saves.reserve(1)?;
+    prepare_save(current, saves, key, &value, steps)?;
     let old = current.replace(
         key,
         Entry {
             value,
             level: group,
         },
+        steps,
     );
     let save = Save {
         key,
@@ -405,27 +453,65 @@ fn save_and_change(
     }
 }
 
+/// Makes an entry ready to get a value, and room for the save of the one that stands there.
+fn prepare_save<L: Ledger>(
+    current: &mut Current,
+    saves: &mut Vec<Save>,
+    key: Key,
+    value: &Value,
+    steps: &mut Steps<L>,
+) -> Result<(), AllocError>
+    requires key { IsTrue (is_key true key) }
+    requires kind { IsTrue (fits key value.now) }
+    requires returns { IsTrue (list_all (can_return current.old) saves.old.items) }
+    requires few { HasFewHolders current.old }
+    requires held { IsHeldBy current.old (held_in saves.old.items) }
+    ensures same { (other : Key) → at current.new other ≡ at current.old other }
+    ensures items { saves.new.items ≡ saves.old.items }
+    ensures room { OnOk result (IsTrue (has_room current.new key)) }
+    ensures more { OnOk result (vec_len saves.new < vec_capacity saves.new) }
+    ensures returns { IsTrue (list_all (can_return current.new) saves.new.items) }
+    ensures held { OnOk result (IsHeldBy current.new (with_needed key value.now (held_in saves.old.items))) }
+    ensures unheld { OnErr result (IsHeldBy current.new (held_in saves.old.items)) }
+    ensures steps { steps.new ≤ steps.old + 2 }
+{
+    current.prepare(key, value, steps)?;
+    match saves.reserve(1) {
+        Ok(()) => Ok(()),
+        Err(refused) => {
+            current.release(key, value, steps);
+            Err(refused)
+        }
+    }
+}
+
 /// Undoes the saves behind the first ones, the newest first.
-fn undo(current: &mut Current, saves: &mut Vec<Save>, first: usize)
+fn undo<L: Ledger>(current: &mut Current, saves: &mut Vec<Save>, first: usize, steps: &mut Steps<L>)
     requires within { first ≤ length saves.old.items }
     requires returns { IsTrue (list_all (can_return current.old) saves.old.items) }
+    requires held { IsHeldBy current.old (held_in saves.old.items) }
     ensures undone { at current.new ≡ undone (drop first saves.old.items) (at current.old) }
     ensures rest { saves.new.items ≡ take first saves.old.items }
     ensures returns { IsTrue (list_all (can_return current.new) saves.new.items) }
+    ensures held { IsHeldBy current.new (held_in saves.new.items) }
+    ensures steps { steps.new ≤ steps.old + 2 * length (drop first saves.old.items) }
 {
     'undoing: while saves.len() > first {
         let Some(save) = saves.pop() else {
             unreachable!()
         };
-        put_back(current, save);
+        put_back(current, save, steps);
     }
 }
 
 /// Undoes one save: what was assigned globally since stays.
-fn put_back(current: &mut Current, save: Save)
-    requires { IsTrue (can_return current.old save) }
+fn put_back<L: Ledger>(current: &mut Current, save: Save, steps: &mut Steps<L>)
+    requires returns { IsTrue (can_return current.old save) }
+    requires held { Holds current.old (save.key ∷ named_by save.value) }
     ensures restored { (other : Key) → at current.new other ≡ restored save (at current.old) other }
     ensures kept { (other : Key) → IsTrue (has_room current.old other) → IsTrue (has_room current.new other) }
+    ensures held { (held : Key → ℕ) → IsHeldBy current.old (with_needed save.key save.value held) → IsHeldBy current.new held }
+    ensures steps { steps.new ≤ steps.old + 2 }
 {
     let Save {
         key,
@@ -433,8 +519,11 @@ fn put_back(current: &mut Current, save: Save)
         value,
         ..
     } = save;
-    if !is_global(current, key) {
-        let _replaced = current.replace(key, Entry { value, level });
+    if is_global(current, key) {
+        current.release(key, &value, steps);
+    } else {
+        let old = current.replace(key, Entry { value, level }, steps);
+        current.release(key, &old.value, steps);
     }
 }
 

@@ -10,6 +10,7 @@ pub use heap_box::HeapBox;
 pub use key::{Key, Scope};
 pub use laws::{calls_law, given_law, levels_law, nodes_law, places_law, saves_law};
 pub use save::Save;
+pub use trees::Trees;
 pub use value::Value;
 
 mod call;
@@ -24,8 +25,11 @@ mod laws;
 mod numbers;
 pub mod parameters;
 mod save;
+mod slots;
 mod start;
 mod table;
+mod tables;
 #[cfg(test)]
 mod tests;
+mod trees;
 mod value;

@@ -1,15 +1,16 @@
 -- A save is made just where the definition makes one.
 use Rattle.std.proofs.Common.{true, false, refl}
 use Rattle.std.proofs.lemmas.Result.{on_ok_weaker}
-use Rattle.save_groups.specs.Entries.{at}
+use Rattle.save_groups.specs.InForce.{at}
 use Rattle.save_groups.specs.Kept.{marks_of, store_of}
+use Rattle.save_groups.specs.Holding.{held_in}
 use Rattle.save_groups.proofs.Modes.{mode-same, mode-changed, mode-saved, mode-stored}
 use Rattle.save_groups.proofs.Steps.{returns-further}
 use Rattle.save_groups.proofs.Assigning.{level-stored, test-stored, either, either_of, both_ok, kept-along, kept-refused, kept-saved, kept-unsaved, store-saved, store-unsaved}
 use Rattle.save_groups.proofs.env.Env.assign_here.Goals as goal
 
 pub invariant_of-self : goal.invariant_of-self
-invariant_of-self c =
+invariant_of-self g c =
     let number = level-stored (store_of c.self.inside) c.args.self.now c.level-level.result c.self.view_is c.level-level.ensures in
     let test = test-stored (store_of c.self.inside) c.args.self.now c.args.key c.level-level.result true c.self.view_is c.level-level.ensures c.if-needs_save.ensures in
     record {
@@ -25,10 +26,11 @@ invariant_of-self c =
           c.args.key (record { value = c.args.value; level = c.level-level.result }) c.level-level.result (mode-stored (store_of c.self.inside) c.args.self.now c.args.value c.self.view_is c.requires.mode)
           changed more c.self.invariant.in_mode)
           (λ same front. mode-same c.self.inside.extended c.self.inside.saves.items c.save_and_change.new.saves.items (at c.self.inside.current) (at c.save_and_change.new.current) same front c.self.invariant.in_mode);
+      held = c.save_and_change.ensures.held;
     }
 
 pub invariant_of-self-else-needs_save : goal.invariant_of-self-else-needs_save
-invariant_of-self-else-needs_save c =
+invariant_of-self-else-needs_save g c =
     let number = level-stored (store_of c.self.inside) c.args.self.now c.level-level.result c.self.view_is c.level-level.ensures in
     let test = test-stored (store_of c.self.inside) c.args.self.now c.args.key c.level-level.result false c.self.view_is c.level-level.ensures c.if-needs_save.ensures in
     record {
@@ -43,10 +45,11 @@ invariant_of-self-else-needs_save c =
           (λ changed. mode-changed c.self.inside.extended c.self.inside.saves.items (at c.self.inside.current) (at c.change.new.current) c.args.key
           (record { value = c.args.value; level = c.level-level.result }) (mode-stored (store_of c.self.inside) c.args.self.now c.args.value c.self.view_is c.requires.mode) changed c.self.invariant.in_mode)
           (λ same. mode-same c.self.inside.extended c.self.inside.saves.items c.self.inside.saves.items (at c.self.inside.current) (at c.change.new.current) same refl c.self.invariant.in_mode);
+      held = c.change.ensures.held (held_in c.self.inside.saves.items) c.self.invariant.held;
     }
 
 pub returns-then-needs_save-clause-ok : goal.returns-then-needs_save-clause-ok
-returns-then-needs_save-clause-ok c =
+returns-then-needs_save-clause-ok g c =
     let number = level-stored (store_of c.self.inside) c.args.self.now c.level-level.result c.self.view_is c.level-level.ensures in
     let test = test-stored (store_of c.self.inside) c.args.self.now c.args.key c.level-level.result true c.self.view_is c.level-level.ensures c.if-needs_save.ensures in
     both_ok c.save_and_change.result
@@ -55,7 +58,7 @@ returns-then-needs_save-clause-ok c =
     c.save_and_change.ensures.ok c.save_and_change.ensures.saved
 
 pub returns-else-needs_save-clause-ok : goal.returns-else-needs_save-clause-ok
-returns-else-needs_save-clause-ok c =
+returns-else-needs_save-clause-ok g c =
     let number = level-stored (store_of c.self.inside) c.args.self.now c.level-level.result c.self.view_is c.level-level.ensures in
     let test = test-stored (store_of c.self.inside) c.args.self.now c.args.key c.level-level.result false c.self.view_is c.level-level.ensures c.if-needs_save.ensures in
     on_ok_weaker c.change.result

@@ -1,7 +1,7 @@
 -- There is room for 255 groups.
 use Rattle.std.proofs.Common.{◌≡◌, refl, sym, ap, ◌∙◌, length, arith, subst, List, ◌∷◌}
 use Rattle.std.proofs.lemmas.Bool.{false≢true}
-use Rattle.save_groups.specs.Entries.{at}
+use Rattle.save_groups.specs.InForce.{at}
 use Rattle.save_groups.specs.Standing.{Mark}
 use Rattle.save_groups.specs.Kept.{AreKept, marks_of}
 use Rattle.save_groups.proofs.Keeping.{kept-entered}
@@ -32,4 +32,5 @@ invariant_of-self c =
       kept = subst P (sym marks) (kept-entered _ (marks_of c.self.inside.groups.items) c.self.inside.saves.items (at c.self.inside.current) refl c.self.invariant.kept);
       returns = c.self.invariant.returns;
       in_mode = c.self.invariant.in_mode;
+      held = c.self.invariant.held;
     }

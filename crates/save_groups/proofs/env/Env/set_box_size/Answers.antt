@@ -2,8 +2,9 @@
 use Rattle.std.proofs.Common.{◌≡◌, rules}
 use Rattle.save_groups.specs.declared.key.Key.{Key}
 use Rattle.save_groups.specs.InPlace.{resized_here}
-use Rattle.save_groups.specs.Entries.{at}
+use Rattle.save_groups.specs.InForce.{at}
 use Rattle.save_groups.specs.Kept.{marks_of, store_of}
+use Rattle.save_groups.specs.Holding.{held_in}
 use Rattle.save_groups.proofs.Steps.{returns-further}
 use Rattle.save_groups.proofs.Places.{kept-resized, mode-resized, store-resized}
 use Rattle.save_groups.proofs.env.Env.set_box_size.Goals as goal
@@ -19,6 +20,7 @@ invariant_of-self c =
       returns = returns-further c.self.inside.current c.set_box_size.new.self c.self.inside.saves.items c.set_box_size.ensures.kept c.self.invariant.returns;
       in_mode = mode-resized c.self.inside.extended c.self.inside.saves.items (at c.self.inside.current) (at c.set_box_size.new.self) c.args.n c.args.part c.args.value
           changed c.self.invariant.in_mode;
+      held = c.set_box_size.ensures.held (held_in c.self.inside.saves.items) c.self.invariant.held;
     }
 
 pub returns-clause-resized : goal.returns-clause-resized

@@ -1,7 +1,10 @@
 -- The tables are those of the start.
-use Rattle.std.proofs.Common.{ap, ◌∙◌, refl, length, arith}
+use Rattle.std.proofs.Common.{◌+◌, ap, ◌∙◌, refl, length, arith}
 use Rattle.save_groups.proofs.Starting.{at_start, length-start_numbers, length-start_codes, length-start_levels, length-start_boxes, length-start_penalties, length-initial_categories}
-use Rattle.save_groups.proofs.current.Current.new.Goals as goal
+use Rattle.save_groups.specs.StartTables.{start_names}
+use Rattle.save_groups.specs.Holding.{named_in}
+use Rattle.save_groups.proofs.Naming.{named-start}
+use Rattle.save_groups.proofs.tables.Tables.new.Goals as goal
 
 pub invariant_of-result : goal.invariant_of-result
 invariant_of-result c = record {
@@ -15,8 +18,8 @@ invariant_of-result c = record {
   boxes = omega (arith, ap length c.in_ok-start_boxes.ensures ∙ length-start_boxes);
 }
 
-pub returns : goal.returns
-returns c = at_start c.args.extended _ (record {
+pub returns-clause-start : goal.returns-clause-start
+returns-clause-start c = at_start c.args.extended _ (record {
   counts = c.new.ensures.items;
   dimens = c.new-2.ensures.items;
   skips = c.new-3.ensures.items;
@@ -36,3 +39,9 @@ returns c = at_start c.args.extended _ (record {
   shape = c.table_entry.ensures;
   penalties = c.in_ok-start_penalties.ensures;
 })
+
+pub returns-clause-named : goal.returns-clause-named
+returns-clause-named c key =
+    ap (λ table. named_in key table + named_in key c.new-8.result.items) c.in_ok-start_names.ensures
+    ∙ ap (λ table. named_in key (start_names c.args.extended) + named_in key table) c.new-8.ensures.items
+    ∙ ap (λ n. n + 0) (named-start key c.args.extended)

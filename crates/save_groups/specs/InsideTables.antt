@@ -1,7 +1,7 @@
 -- What the tables of the environment that is in force hold, and how far they reach.
 use Rattle.std.specs.Prelude.{◌≡◌, ◌≤◌, [], length}
 use Rattle.tokens.specs.declared.meaning.Meaning.TheVariants.{Undefined}
-use Rattle.save_groups.specs.declared.current.Current.TheInside.{Inside}
+use Rattle.save_groups.specs.declared.tables.Tables.TheInside.{Inside}
 use Rattle.std.specs.Coded.{Coded, codes}
 use Rattle.nodes.specs.contracts.node.Node as node
 use Rattle.save_groups.specs.Entries.{Entries}

@@ -4,7 +4,7 @@ use Rattle.std.specs.Prelude.{ℤ, slice_index_or}
 use Rattle.save_groups.specs.declared.entry.Entry.{Entry}
 use Rattle.save_groups.specs.Entries.{code_place}
 use Rattle.save_groups.proofs.Reaching.{code_found}
-use Rattle.save_groups.proofs.current.Current.replace_number.Goals as goal
+use Rattle.save_groups.proofs.tables.Tables.replace_number.Goals as goal
 
 pub returns-in-Code-clause-old : goal.returns-in-Code-clause-old
 returns-in-Code-clause-old c =
