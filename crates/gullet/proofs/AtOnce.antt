@@ -10,7 +10,7 @@ use Rattle.asking.specs.Meaning.{Meant, still}
 use Rattle.asking.specs.Seen.{Outside, Seen, DoesBeside}
 use Rattle.phrases.specs.Phrases.{More, Ends}
 use Rattle.gullet.specs.declared.context.Context.{Context}
-use Rattle.gullet.specs.declared.next.Sought.TheVariants as sought
+use Rattle.gullet.specs.declared.unexpandable.Sought.TheVariants as sought
 use Rattle.gullet.specs.declared.progress.Progress.TheVariants.{Finishing, Telling}
 use Rattle.gullet.specs.declared.task.Act.TheVariants as act
 use Rattle.gullet.specs.declared.task.Task.{Task}
@@ -22,9 +22,9 @@ use Rattle.gullet.specs.declared.task.Want.TheVariants as want
 use Rattle.gullet.specs.Acts.{perform, with_text}
 use Rattle.gullet.specs.Expansion.{Turned, by_want, got, inside, outcome, outermost}
 use Rattle.gullet.specs.Frames.{Begins}
-use Rattle.gullet.specs.Next.{expanded}
 use Rattle.gullet.specs.Progress.{TakesUp}
 use Rattle.gullet.specs.State.{State}
+use Rattle.gullet.specs.Unexpandable.{expanded}
 use Rattle.gullet.specs.Wants.{Taken, Was, wants, was_done, tokens_in, used_by, matching}
 use Rattle.gullet.proofs.CallSteps.{behind_taken}
 use Rattle.gullet.proofs.PlainSteps.{plain_takes_up}

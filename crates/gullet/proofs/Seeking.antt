@@ -11,13 +11,13 @@ use Rattle.asking.specs.Meaning.{Meant, ◌>>=◌}
 use Rattle.asking.specs.Seen.{Outside, Seen, DoesBeside}
 use Rattle.asking.specs.Asked.{cut_later, prefix_same}
 use Rattle.asking.specs.Leads.{told, does_then, does_end, does_still}
-use Rattle.gullet.specs.declared.next.Sought.{Sought}
-use Rattle.gullet.specs.declared.next.Sought.TheVariants as sought
+use Rattle.gullet.specs.declared.unexpandable.Sought.{Sought}
+use Rattle.gullet.specs.declared.unexpandable.Sought.TheVariants as sought
 use Rattle.gullet.specs.Events.{take_event}
 use Rattle.gullet.specs.Expansion.{most_turns}
-use Rattle.gullet.specs.Next.{seek_once, behind_look, seek, next_expanded}
 use Rattle.gullet.specs.RawToken.{is_end, raw_of, ends_left, by_raw, raw_past, next_raw}
 use Rattle.gullet.specs.State.{State}
+use Rattle.gullet.specs.Unexpandable.{Flagged, seek_once, behind_look, seek, next_unexpandable}
 use Rattle.gullet.proofs.Ends.{end-falls}
 
 -- ---- the next token as it stands
@@ -88,21 +88,21 @@ module _ {first s : State} where
 
 -- so many looks more
 pub record Seeks (o : Outside) (old now : Seen) (first s : State) (left : ℕ) : Type 0 where
-  pub from : (new : Seen) (result : Result (Option Token) Stop) (t : State) → DoesBeside o now new result t (seek o left s)
-      → DoesBeside o old new result t (next_expanded o first)
+  pub from : (new : Seen) (result : Result Flagged Stop) (t : State) → DoesBeside o now new result t (seek o left s)
+      → DoesBeside o old new result t (next_unexpandable o first)
 
 -- one look, and what follows
-abbrev seek_by : Outside → ℕ → State → Meant State (Option Token)
+abbrev seek_by : Outside → ℕ → State → Meant State Flagged
 seek_by o n s = seek_once o s >>= behind_look (seek o n)
 
 -- what one look and what follows comes to, finishing from the start comes to
 abbrev Looks : Outside → Seen → Seen → State → State → ℕ → Type 0
-Looks o old now first s n = (new : Seen) (result : Result (Option Token) Stop) (t : State) → DoesBeside o now new result t (seek_by o n s)
-    → DoesBeside o old new result t (next_expanded o first)
+Looks o old now first s n = (new : Seen) (result : Result Flagged Stop) (t : State) → DoesBeside o now new result t (seek_by o n s)
+    → DoesBeside o old new result t (next_unexpandable o first)
 
 module _ {o : Outside} {old : Seen} {first : State} where
   pub seeks_start : Seeks o old old first first 18446744073709551615
-  unfolding next_expanded most_turns
+  unfolding next_unexpandable most_turns
   seeks_start = record { from = λ new result t h. h }
 
 module _ {o : Outside} {old now : Seen} {first s : State} {left : ℕ} where
@@ -117,24 +117,24 @@ module _ {o : Outside} {old now : Seen} {first s : State} {left : ℕ} where
     from = λ end result u g. look n is w end result u (does_then o now new (seek_once o s) (behind_look (seek o n)) end sought.Again t u result h g);
   }
 
-  pub seeks_token : (new : Seen) (t : State) (token : Token) (n : ℕ) → left ≡ suc n → Seeks o old now first s left → DoesBeside o now new (Ok (sought.Token token)) t (seek_once o s)
-      → DoesBeside o old new (Ok (Some token)) t (next_expanded o first)
-  seeks_token new t token n is w h =
-      look n is w new (Ok (Some token)) t
-      (does_then o now new (seek_once o s) (behind_look (seek o n)) new (sought.Token token) t t (Ok (Some token)) h (does_still o new (Some token) t))
+  pub seeks_token : (new : Seen) (t : State) (token : Token) (noexpand : Bool) (n : ℕ) → left ≡ suc n → Seeks o old now first s left → DoesBeside o now new (Ok (sought.Token token noexpand)) t (seek_once o s)
+      → DoesBeside o old new (Ok (Some (token, noexpand))) t (next_unexpandable o first)
+  seeks_token new t token noexpand n is w h =
+      look n is w new (Ok (Some (token, noexpand))) t
+      (does_then o now new (seek_once o s) (behind_look (seek o n)) new (sought.Token token noexpand) t t (Ok (Some (token, noexpand))) h (does_still o new (Some (token, noexpand)) t))
 
   pub seeks_nothing : (new : Seen) (t : State) (n : ℕ) → left ≡ suc n → Seeks o old now first s left → DoesBeside o now new (Ok sought.Nothing) t (seek_once o s)
-      → DoesBeside o old new (Ok None) t (next_expanded o first)
+      → DoesBeside o old new (Ok None) t (next_unexpandable o first)
   seeks_nothing new t n is w h =
       look n is w new (Ok None) t
       (does_then o now new (seek_once o s) (behind_look (seek o n)) new sought.Nothing t t (Ok None) h (does_still o new None t))
 
   pub seeks_stop : (new : Seen) (t : State) (stop : Stop) (n : ℕ) → left ≡ suc n → Seeks o old now first s left → DoesBeside {A = Sought} o now new (Err stop) t (seek_once o s)
-      → DoesBeside {A = Option Token} o old new (Err stop) t (next_expanded o first)
+      → DoesBeside {A = Flagged} o old new (Err stop) t (next_unexpandable o first)
   seeks_stop new t stop n is w h = look n is w new (Err stop) t (does_end o now new (seek_once o s) (behind_look (seek o n)) t stop h)
 
   -- no look is left
-  pub seeks_out : (t : State) → Seeks o old now first s left → DoesBeside {A = Option Token} o old now (Err OutOfMemory) t (next_expanded o first)
+  pub seeks_out : (t : State) → Seeks o old now first s left → DoesBeside {A = Flagged} o old now (Err OutOfMemory) t (next_unexpandable o first)
   seeks_out t w =
       w.from now (Err OutOfMemory) t
       ((refl, refl, refl), told o _ (cut_later now.place.shown (seek o left s now.place).asks now.place (prefix_same now.place.shown)))

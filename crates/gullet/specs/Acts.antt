@@ -445,10 +445,17 @@ abbrev pub by_found : List ℕ → Option (List ℕ) × State → Did State Told
 by_found file (None, s) = not_found file s
 by_found file (Some bytes, s) = found file bytes s
 
+-- the name of the file that is asked for is kept, for whoever tells that it couldn't be read
+abbrev pub with_asked : List ℕ → State → State
+with_asked file s = record s { facts = record s.facts { asked = file } }
+
+abbrev pub ask_file : Outside → List ℕ → State → Meant State Told
+ask_file o file s = meant.◌>>=◌ (within (λ out. record s { out = out }) (fetching o file s.out)) (λ r. still (by_found file r))
+
 unfoldable pub open_file : Outside → List ℕ → State → Meant State Told
 open_file o file s =
     if can_be_read file s
-    then meant.◌>>=◌ (within (λ out. record s { out = out }) (fetching o file s.out)) (λ r. still (by_found file r))
+    then ask_file o file (with_asked file s)
     else still (not_found file s)
 
 -- the file that a name asks for is opened (The TeXbook, page 214; tex.web 537 and 538)

@@ -49,6 +49,7 @@ is_counted task.NameText = true
 is_counted (task.Input t) = false
 is_counted task.FileName = false
 is_counted (task.Text expanded) = true
+is_counted (task.Definition expanded) = true
 is_counted (task.Simple thing) = false
 
 abbrev pub is_file_name : Task → Bool
@@ -66,9 +67,10 @@ is_file_name task.NameText = false
 is_file_name (task.Input t) = false
 is_file_name task.FileName = true
 is_file_name (task.Text expanded) = false
+is_file_name (task.Definition expanded) = false
 is_file_name (task.Simple thing) = false
 
--- in the arguments of a macro, in a text and in one that is passed over no file may end, and no outer macro may stand (The
+-- in the arguments of a macro, in a definition, in a text and in one that is passed over no file may end, and no outer macro may stand (The
 -- TeXbook, page 206; tex.web 336)
 abbrev pub is_closed : Task → Bool
 is_closed task.WholeNumber = false
@@ -85,6 +87,7 @@ is_closed task.NameText = false
 is_closed (task.Input t) = false
 is_closed task.FileName = false
 is_closed (task.Text expanded) = true
+is_closed (task.Definition expanded) = true
 is_closed (task.Simple thing) = false
 
 -- nothing stands around

@@ -25,4 +25,4 @@ font_shown (meaning.Char cat byte) f = []
 font_shown (meaning.CharDef byte) f = []
 font_shown (meaning.MathCharDef number) f = []
 font_shown (meaning.Register kind number) f = []
-font_shown (meaning.Font font) f = font_text (slice_get f.fonts.items font)
+font_shown (meaning.Font font) f = font_text (slice_get f.fonts font)

@@ -11,8 +11,11 @@ pub mod Acts
 pub mod Wants
 pub mod Expansion
 pub mod Turned
+pub mod Unexpandable
 pub mod Next
+pub mod ValueText
 pub mod Texts
+pub mod FirstLine
 pub mod Laws
 pub mod Progress
 pub mod Example

@@ -1,6 +1,6 @@
 -- How far a phrase was read, as the code keeps it, and for which lists of what was taken that stands: whatever is taken
 -- next, the phrase wants then what is said of the rest.
-use Rattle.std.specs.Prelude.{◌≡◌, ◌==◌, Bool, true, false, if◌then◌else◌, List, [], ◌∷◌, ◌++◌, length, map, None}
+use Rattle.std.specs.Prelude.{◌≡◌, ◌==◌, Bool, true, false, if◌then◌else◌, List, [], ◌∷◌, ◌++◌, length, map, Some, None}
 use Rattle.tokens.specs.declared.token.Token.{Token}
 use Rattle.tokens.specs.declared.meaning.Meaning.{Meaning}
 use Rattle.scan_nums.specs.Number.{first_number}
@@ -11,6 +11,9 @@ use Rattle.conditionals.specs.Skipping.{StandsFor}
 use Rattle.macro_args.specs.Scanning.{StandsFor as ArgumentsStand}
 use Rattle.gullet.specs.declared.calling.Parts.{Parts}
 use Rattle.gullet.specs.declared.context.Context.{Context}
+use Rattle.gullet.specs.declared.in_text.InText.{InText}
+use Rattle.gullet.specs.declared.in_text.InText.TheVariants as in_text
+use Rattle.gullet.specs.declared.in_text.Purpose.TheVariants.{Alone}
 use Rattle.gullet.specs.declared.progress.Progress.{Progress}
 use Rattle.gullet.specs.declared.progress.Progress.TheVariants as progress
 use Rattle.gullet.specs.declared.task.Task.{Task}
@@ -20,7 +23,25 @@ use Rattle.gullet.specs.declared.task.Told.TheVariants as told
 use Rattle.gullet.specs.declared.task.Act.TheVariants as act
 use Rattle.gullet.specs.declared.task.Want.{Want}
 use Rattle.gullet.specs.declared.task.Want.TheVariants.{Raw, Expanded, Character, Act, Inner, Gives, Wrong}
-use Rattle.gullet.specs.Wants.{Taken, wants, done, only, told_of, token_of, meaning_of, number_told, level_told, word_told, goes_on, holds_told, behind_first, behind_second, second_want, the_value, register_list_want, digits_want, register_numbered, test_want, is_odd, first_by, second_by, second_want_of, glyph_if, alike, case_of, cases_before, cases_left_want, cases_by, cases_want, relation_want, false_want, to_fi_want, name_from, file_want, file_from, named_want, left_want, by_relation, relation_of, decided, holds, name_by, byte_of, file_by, letter_of, scanned, matching, tokens_in, was_done, Ahead, text_want, text_opened, is_filler, gathered, gathered_by, expansion_in, longer, tokens_told}
+use Rattle.gullet.specs.Wants.{Taken, wants, done, only, told_of, token_of, meaning_of, number_told, level_told, word_told, goes_on, holds_told, behind_first, behind_second, second_want, the_value, register_list_want, digits_want, register_numbered, test_want, is_odd, first_by, second_by, second_want_of, glyph_if, alike, case_of, cases_before, cases_left_want, cases_by, cases_want, relation_want, false_want, to_fi_want, name_from, file_want, file_from, named_want, left_want, by_relation, relation_of, decided, holds, name_by, byte_of, file_by, letter_of, scanned, matching, tokens_in, was_done, Ahead, text_want, text_opened, is_filler, gathered, gathered_by, expansion_in, longer, tokens_told, parameter_count, signed_by, body_opened, front, front_by, parameter_by}
+
+-- the same of a text, by where in it that is
+unfoldable pub text_rest : InText → Token → Meaning → Told → List Taken → Want
+text_rest (in_text.Start expanded) t m v xs =
+    if is_filler m then text_want (gathered Alone expanded Ahead 0 []) xs else text_opened (gathered Alone expanded Ahead 0 [] xs) m
+text_rest (in_text.Front front_text) t m v xs =
+    front_by (λ more. front front_text.expanded false front_text.count more xs) (body_opened front_text.expanded front_text.count None xs front_text.tokens.items)
+    (front front_text.expanded true front_text.count front_text.tokens.items xs) front_text.tokens.items t m xs
+text_rest (in_text.FrontSign front_text) t m v xs =
+    parameter_by (body_opened front_text.expanded front_text.count (Some t) xs) (λ number more. front front_text.expanded false number more xs)
+    front_text.count front_text.tokens.items t m xs
+text_rest (in_text.Inside inside) t m v xs =
+    gathered_by (λ place depth more. gathered inside.purpose inside.expanded place depth more xs) inside.purpose inside.tokens.items inside.depth t m
+    (expansion_in inside.expanded t m) xs
+text_rest (in_text.Sign inside) t m v xs =
+    signed_by (λ more. gathered inside.purpose inside.expanded Ahead inside.depth more xs) (parameter_count inside.purpose) inside.tokens.items t m xs
+text_rest (in_text.Inserting inside) t m v xs =
+    longer (λ more. gathered inside.purpose inside.expanded Ahead inside.depth more xs) inside.tokens.items (tokens_told v) xs
 
 -- what the phrase wants where a token with this meaning is taken next, or this is told, and then these are taken
 abbrev pub rest : Progress → Token → Meaning → Told → List Taken → Want
@@ -59,11 +80,7 @@ rest progress.FileStart t m v xs =
     if is_space m then file_want xs else file_by (λ longer. file_from longer xs) [] (letter_of m) t
 rest (progress.File text) t m v xs = file_by (λ longer. file_from longer xs) text.items (letter_of m) t
 rest progress.Named t m v xs = named_want v xs
-rest (progress.TextStart expanded) t m v xs =
-    if is_filler m then text_want (gathered expanded Ahead 0 []) xs else text_opened (gathered expanded Ahead 0 [] xs) m
-rest (progress.Gathering text) t m v xs =
-    gathered_by (λ place inside more. gathered text.expanded place inside more xs) text.tokens.items text.depth t (expansion_in text.expanded t m) xs
-rest (progress.Inserting text) t m v xs = longer (λ more. gathered text.expanded Ahead text.depth more xs) text.tokens.items (tokens_told v) xs
+rest (progress.Text text) t m v xs = text_rest text t m v xs
 
 abbrev pub rest_behind : Progress → Taken → List Taken → Want
 rest_behind p x xs = rest p (token_of x) (meaning_of x) (told_of x) xs
@@ -108,9 +125,7 @@ Stands (progress.Name text) c kind taken = Follows (progress.Name text) c kind t
 Stands progress.FileStart c kind taken = Follows progress.FileStart c kind taken
 Stands (progress.File text) c kind taken = Follows (progress.File text) c kind taken
 Stands progress.Named c kind taken = Follows progress.Named c kind taken
-Stands (progress.TextStart expanded) c kind taken = Follows (progress.TextStart expanded) c kind taken
-Stands (progress.Gathering text) c kind taken = Follows (progress.Gathering text) c kind taken
-Stands (progress.Inserting text) c kind taken = Follows (progress.Inserting text) c kind taken
+Stands (progress.Text text) c kind taken = Follows (progress.Text text) c kind taken
 
 -- a fact that holds unless the phrase is at its end
 abbrev pub WhileOpen : Want → Type 0 → Type 0
@@ -159,9 +174,7 @@ FitsToken (progress.Name text) = Unit {0}
 FitsToken progress.FileStart = Unit {0}
 FitsToken (progress.File text) = Unit {0}
 FitsToken progress.Named = Unit {0}
-FitsToken (progress.TextStart expanded) = Unit {0}
-FitsToken (progress.Gathering text) = Unit {0}
-FitsToken (progress.Inserting text) = Unit {0}
+FitsToken (progress.Text text) = Unit {0}
 
 abbrev pub FitsGot : Progress → Type 0
 FitsGot (progress.Number scan) = awaits scan ≡ Answer
@@ -196,9 +209,7 @@ FitsGot (progress.Name text) = Unit {0}
 FitsGot progress.FileStart = Unit {0}
 FitsGot (progress.File text) = Unit {0}
 FitsGot progress.Named = Unit {0}
-FitsGot (progress.TextStart expanded) = Unit {0}
-FitsGot (progress.Gathering text) = Unit {0}
-FitsGot (progress.Inserting text) = Unit {0}
+FitsGot (progress.Text text) = Unit {0}
 
 abbrev pub FitsWas : Progress → Type 0
 FitsWas (progress.Number scan) = awaits scan ≡ Resumption
@@ -233,9 +244,7 @@ FitsWas (progress.Name text) = Unit {0}
 FitsWas progress.FileStart = Unit {0}
 FitsWas (progress.File text) = Unit {0}
 FitsWas progress.Named = Unit {0}
-FitsWas (progress.TextStart expanded) = Unit {0}
-FitsWas (progress.Gathering text) = Unit {0}
-FitsWas (progress.Inserting text) = Unit {0}
+FitsWas (progress.Text text) = Unit {0}
 
 -- a macro's call is read
 abbrev pub IsCall : Progress → Type 0
@@ -296,9 +305,43 @@ is_plain (progress.Name text) = true
 is_plain progress.FileStart = true
 is_plain (progress.File text) = true
 is_plain progress.Named = true
-is_plain (progress.TextStart expanded) = true
-is_plain (progress.Gathering text) = true
-is_plain (progress.Inserting text) = true
+is_plain (progress.Text text) = true
+
+-- a condition that is decided, or whose branch is sought
+abbrev pub is_deciding : Progress → Bool
+is_deciding (progress.Number scan) = false
+is_deciding (progress.Passing sought scan count) = false
+is_deciding (progress.Call call) = false
+is_deciding (progress.Finishing back) = false
+is_deciding progress.Telling = false
+is_deciding progress.ExpandFirst = false
+is_deciding (progress.ExpandSecond first) = false
+is_deciding (progress.Value straight) = false
+is_deciding (progress.ListNumber straight) = false
+is_deciding (progress.Digits numerals) = false
+is_deciding (progress.RegisterNumber code) = false
+is_deciding (progress.Opened asks) = true
+is_deciding (progress.OddNumber level) = true
+is_deciding (progress.Asked level) = true
+is_deciding (progress.FirstGlyph p level) = true
+is_deciding (progress.FirstActive p level active) = true
+is_deciding (progress.SecondGlyph p level first) = true
+is_deciding (progress.SecondActive p level first active) = true
+is_deciding (progress.CaseNumber level) = true
+is_deciding (progress.Cases level left) = true
+is_deciding (progress.CasesLeft level left) = true
+is_deciding (progress.FirstNumber level) = true
+is_deciding (progress.Relation level first) = true
+is_deciding (progress.SecondNumber level relation first) = true
+is_deciding (progress.PassedOver level) = true
+is_deciding (progress.Left level) = true
+is_deciding progress.Met = false
+is_deciding progress.ToFi = false
+is_deciding (progress.Name text) = false
+is_deciding progress.FileStart = false
+is_deciding (progress.File text) = false
+is_deciding progress.Named = false
+is_deciding (progress.Text text) = false
 
 -- a plain step that follows stands
 pub stands-plain : (p : Progress) (c : Context) (kind : Task) (taken : List Taken) → is_plain p ≡ true → Follows p c kind taken → Stands p c kind taken

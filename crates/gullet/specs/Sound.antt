@@ -167,7 +167,7 @@ IsSoundEvent k event.Empty = Unit {0}
 -- ---- the rest of the run
 
 pub record IsSoundFont (font : FontFacts) : Type 0 where
-  pub dimens : AllByRecursion IsAboveLowest font.dimens.items
+  pub dimens : AllByRecursion IsAboveLowest font.dimens
   pub hyphen : IsAboveLowest font.hyphen
   pub skew : IsAboveLowest font.skew
 
@@ -185,12 +185,12 @@ pub record AreSoundFacts (k : Known) (f : Facts) : Type 0 where
   pub interaction : IsAboveLowest f.interaction
   pub used_mag : IsAboveLowest f.used_mag
   pub after : IsSoundSome k f.after
-  pub fonts : AllByRecursion IsSoundFont f.fonts.items
+  pub fonts : AllByRecursion IsSoundFont f.fonts
 
 -- ---- all of it
 
 abbrev pub known_of : State → Known
-known_of s = record { names = length s.names; fonts = length s.facts.fonts.items }
+known_of s = record { names = length s.names; fonts = length s.facts.fonts }
 
 pub record IsSound (s : State) : Type 0 where
   pub pending : AllByRecursion (IsSoundItem (known_of s)) s.pending

@@ -44,7 +44,7 @@ use Rattle.gullet.specs.declared.task.Told.{Told}
 use Rattle.gullet.specs.declared.task.Told.TheVariants as told
 use Rattle.gullet.specs.declared.task.BranchWord.TheVariants.{Fi, Else, Or}
 use Rattle.gullet.specs.Acts
-use Rattle.gullet.specs.Acts.{with_token, with_some, behind_relax, other, with_bytes, with_any_job, with_job_name, with_input_ended, with_text, look_register, pass_register, look_parameter, look_by, open_condition, leave, meet, make_name, with_meaning, with_name, is_undefined, with_job, begun, found, by_found, open_file, read_file, passing, perform}
+use Rattle.gullet.specs.Acts.{with_token, with_some, behind_relax, other, with_bytes, with_any_job, with_job_name, with_input_ended, with_text, look_register, pass_register, look_parameter, look_by, open_condition, leave, meet, make_name, with_meaning, with_name, is_undefined, with_job, with_asked, ask_file, begun, found, by_found, open_file, read_file, passing, perform}
 use Rattle.gullet.specs.FileName.{file_of, job_of}
 use Rattle.gullet.specs.Parameters.{number_of, number_at, end_line, new_line}
 use Rattle.gullet.specs.Report.{file_begun}
@@ -69,8 +69,8 @@ module _ (s : State) (h : IsSound s) where
   printed_kept : (out : Output) (passed : Passed) → IsKept s (record s { out = out; passed = passed })
   printed_kept out passed = record { sound = record { pending = h.pending; copies = h.copies; facts = h.facts }; names = names_same s.names; fonts = refl }
 
-  job_kept : (job : List ℕ) → IsKept s (record s { facts = record s.facts { job = job } })
-  job_kept job = record {
+  names_kept : (job asked : List ℕ) → IsKept s (record s { facts = record s.facts { job = job; asked = asked } })
+  names_kept job asked = record {
     sound = record {
       pending = h.pending;
       copies = h.copies;
@@ -93,6 +93,12 @@ module _ (s : State) (h : IsSound s) where
     names = names_same s.names;
     fonts = refl;
   }
+
+  pub job_kept : (job : List ℕ) → IsKept s (record s { facts = record s.facts { job = job } })
+  job_kept job = names_kept job s.facts.asked
+
+  pub asked_kept : (file : List ℕ) → IsKept s (with_asked file s)
+  asked_kept file = names_kept s.facts.job file
 
   -- ---- tokens in front
 
@@ -187,6 +193,7 @@ TellsNegatable k told.GoOn = ⊥
 TellsNegatable k (told.Text text) = ⊥
 TellsNegatable k (told.Holds b) = ⊥
 TellsNegatable k (told.Tokens tokens) = ⊥
+TellsNegatable k (told.Definition parameters body) = ⊥
 
 module _ (k : Known) where
   number_of_sound : (v : Value) → IsSoundValue k v → IsAboveLowest (number_of v)
@@ -270,6 +277,7 @@ told_kept s (Ok (told.GoOn, t)) h = absurd h.1
 told_kept s (Ok (told.Text text, t)) h = absurd h.1
 told_kept s (Ok (told.Holds b, t)) h = absurd h.1
 told_kept s (Ok (told.Tokens tokens, t)) h = absurd h.1
+told_kept s (Ok (told.Definition parameters body, t)) h = absurd h.1
 told_kept s (Err (stop, t)) h = h
 
 -- ---- lists
@@ -366,7 +374,7 @@ meaning_sound k id c known h =
 
 name_kept : (s : State) → IsSound s → (e : Interned) → KeepsNames s.names e.names → e.id < length e.names → IsKept s (with_name e s)
 name_kept s h e names below =
-    let k : Known = record { names = length e.names; fonts = length s.facts.fonts.items } in
+    let k : Known = record { names = length e.names; fonts = length s.facts.fonts } in
     let more : Grows (known_of s) k = record { names = names.grow; fonts = omega arith } in
     record {
       sound = record {
@@ -427,19 +435,28 @@ fetch_kept : (o : Outside) (file : List ℕ) (s : State) → IsSound s → Keeps
 unfolding asks_within
 fetch_kept o file s h place = record { asks = (printed_kept s h _ s.passed, tt); ends = (printed_kept s h _ s.passed, tt) }
 
-open_file_kept : (o : Outside) (file : List ℕ) (s : State) → IsSound s → KeepsAll IsSoundTold s (open_file o file s)
-unfolding open_file
-open_file_kept o file s h =
-    either (KeepsAll IsSoundTold s) (Acts.can_be_read file s) _ _
-    (keeps_then Anything IsSoundTold s (within (λ out. record s { out = out }) (fetching o file s.out)) (λ r. still (by_found file r)) (fetch_kept o file s h)
-    (λ bytes t k b. keeps_still IsSoundTold t (by_found file (bytes, t)) (by_found_kept file bytes t k.sound)))
-    (keeps_still IsSoundTold s (Acts.not_found file s) (kept_itself s h))
-
 with_job_kept : (file : List ℕ) (s : State) → IsSound s → IsKept s (with_job file s)
 with_job_kept file s h = either (IsKept s) (length s.facts.job == 0) _ _ (job_kept s h (job_of file)) (kept_itself s h)
 
 keeps_all_from : {A : Type 0} (P : Known → A → Type 0) (s t : State) (m : Meant State A) → IsKept s t → KeepsAll P t m → KeepsAll P s m
 keeps_all_from P s t m k h place = record { asks = asks_from s t (m place).asks k (h place).asks; ends = keeps_from P s t (m place).ends k (h place).ends }
+
+ask_file_kept : (o : Outside) (file : List ℕ) (s : State) → IsSound s → KeepsAll IsSoundTold s (ask_file o file s)
+ask_file_kept o file s h =
+    keeps_then Anything IsSoundTold s (within (λ out. record s { out = out }) (fetching o file s.out)) (λ r. still (by_found file r)) (fetch_kept o file s h)
+    (λ bytes t k b. keeps_still IsSoundTold t (by_found file (bytes, t)) (by_found_kept file bytes t k.sound))
+
+ask_named_kept : (o : Outside) (file : List ℕ) (s : State) → IsSound s → KeepsAll IsSoundTold s (ask_file o file (with_asked file s))
+ask_named_kept o file s h =
+    let kept : IsKept s (with_asked file s) = asked_kept s h file in
+    keeps_all_from IsSoundTold s (with_asked file s) (ask_file o file (with_asked file s)) kept (ask_file_kept o file (with_asked file s) kept.sound)
+
+open_file_kept : (o : Outside) (file : List ℕ) (s : State) → IsSound s → KeepsAll IsSoundTold s (open_file o file s)
+unfolding open_file
+open_file_kept o file s h =
+    either (KeepsAll IsSoundTold s) (Acts.can_be_read file s) _ _
+    (ask_named_kept o file s h)
+    (keeps_still IsSoundTold s (Acts.not_found file s) (kept_itself s h))
 
 read_file_kept : (o : Outside) (name : List ℕ) (s : State) → IsSound s → KeepsAll IsSoundTold s (read_file o name s)
 unfolding read_file

@@ -204,8 +204,8 @@ kept_itself s h = record { sound = h; names = names_same s.names; fonts = refl }
 pub kept_then : (s t u : State) → IsKept s t → IsKept t u → IsKept s u
 kept_then s t u h g = record { sound = g.sound; names = names_then s.names t.names u.names h.names g.names; fonts = g.fonts ∙ h.fonts }
 
-fonts_stay : (f g : Facts) → g.fonts ≡ f.fonts → length f.fonts.items ≤ length g.fonts.items
-fonts_stay f g same = let equal : length g.fonts.items ≡ length f.fonts.items = cc in omega (arith, equal)
+fonts_stay : (f g : Facts) → g.fonts ≡ f.fonts → length f.fonts ≤ length g.fonts
+fonts_stay f g same = let equal : length g.fonts ≡ length f.fonts = cc in omega (arith, equal)
 
 -- more is known then
 pub kept_grows : (s t : State) → IsKept s t → Grows (known_of s) (known_of t)

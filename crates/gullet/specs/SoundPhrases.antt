@@ -1,6 +1,8 @@
 -- What is sound of phrases: their kinds, what they have taken, what they want, and what is done for them.
-use Rattle.std.specs.Prelude.{List, Option, Some, None}
+use Rattle.std.specs.Prelude.{false, List, Option, Some, None}
 use Rattle.std.specs.List.{AllByRecursion}
+use Rattle.tokens.specs.declared.token.Token.{Token}
+use Rattle.tokens.specs.declared.meaning.Macro.{Macro}
 use Rattle.phrases.specs.Phrases.{Found, More, Again, Inner, Aside, Ends}
 use Rattle.gullet.specs.declared.task.Task.{Task}
 use Rattle.gullet.specs.declared.task.Task.TheVariants as task
@@ -29,13 +31,18 @@ IsSoundTask k task.NameText = Unit {0}
 IsSoundTask k (task.Input t) = IsSoundToken k t
 IsSoundTask k task.FileName = Unit {0}
 IsSoundTask k (task.Text expanded) = Unit {0}
+IsSoundTask k (task.Definition expanded) = Unit {0}
 IsSoundTask k (task.Simple thing) = Unit {0}
 
 abbrev pub IsSoundSomeTask : Known → Option Task → Type 0
 IsSoundSomeTask k None = Unit {0}
 IsSoundSomeTask k (Some inner) = IsSoundTask k inner
 
--- what is told: a list has no arguments
+-- a macro with these texts, and without prefixes
+abbrev pub as_macro : List Token → List Token → Macro
+as_macro parameters body = record { long = false; outer = false; guarded = false; params = parameters; body = body }
+
+-- what is told: a list has no arguments, and a definition is that of a macro
 abbrev pub IsSoundTold : Known → Told → Type 0
 IsSoundTold k told.Done = Unit {0}
 IsSoundTold k (told.Number n) = Unit {0}
@@ -45,6 +52,7 @@ IsSoundTold k told.GoOn = Unit {0}
 IsSoundTold k (told.Text text) = Unit {0}
 IsSoundTold k (told.Holds b) = Unit {0}
 IsSoundTold k (told.Tokens tokens) = AreSoundTokens k tokens
+IsSoundTold k (told.Definition parameters body) = IsSoundMacro k (as_macro parameters body)
 
 -- a token that was taken, and its meaning
 abbrev pub IsSoundTaken : Known → Taken → Type 0

@@ -124,7 +124,7 @@ pub record IsStart (extended : Bool) (line : List ℕ) (s : State) : Type 0 wher
   pub pending : s.pending ≡ first_pending line
   pub copies : s.copies ≡ beginning extended
   pub names : s.names ≡ primitive_names
-  pub fonts : 1 ≤ length s.facts.fonts.items
+  pub fonts : 1 ≤ length s.facts.fonts
   pub facts : AreSoundFacts (known_of s) s.facts
 
 pub start_sound : (extended : Bool) (line : List ℕ) (s : State) → IsStart extended line s → IsSound s

@@ -31,7 +31,7 @@ use Rattle.gullet.specs.Meanings.{expansion, is_missing, known, as_meaning, mean
 use Rattle.gullet.specs.State.{State}
 use Rattle.gullet.specs.Wants.{Taken, Tok, Got, Was, wants}
 use Rattle.gullet.specs.Sound.{Known, IsSoundToken, IsSoundMeaning, IsSoundValue, AreSoundCopies, IsSoundEvent, IsSound, known_of}
-use Rattle.gullet.specs.SoundPhrases.{IsSoundTask, IsSoundSomeTask, IsSoundTold, IsSoundTaken, AreSoundTaken, IsSoundWant, IsSoundFound}
+use Rattle.gullet.specs.SoundPhrases.{IsSoundTask, IsSoundSomeTask, IsSoundTold, IsSoundTaken, AreSoundTaken, IsSoundWant, IsSoundFound, as_macro}
 use Rattle.gullet.specs.SoundKept.{Anything, either, each_map, each_two, Grows, token_grown, tokens_grown, meaning_grown, IsKept, kept_itself, kept_grows, Keeps, KeepsAll, keeps_still, keeps_did, keeps_then}
 use Rattle.gullet.specs.SoundTaking.{event_kept}
 use Rattle.gullet.specs.SoundWants.{expansion_sound, wants_sound}
@@ -96,6 +96,7 @@ told_grown k l g told.GoOn h = h
 told_grown k l g (told.Text text) h = h
 told_grown k l g (told.Holds b) h = h
 told_grown k l g (told.Tokens tokens) h = tokens_grown k l g tokens h
+told_grown k l g (told.Definition parameters body) h = meaning_grown k l g (meaning.Macro (as_macro parameters body)) h
 
 -- ---- one turn
 
@@ -178,6 +179,7 @@ task_grown k l g task.NameText h = h
 task_grown k l g (task.Input t) h = token_grown k l g t h
 task_grown k l g task.FileName h = h
 task_grown k l g (task.Text expanded) h = h
+task_grown k l g (task.Definition expanded) h = h
 task_grown k l g (task.Simple thing) h = h
 
 module _ (o : Outside) where

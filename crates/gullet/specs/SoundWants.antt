@@ -1,8 +1,10 @@
 -- What phrases want of what is sound, is sound.
-use Rattle.std.specs.Prelude.{ℕ, pos, ◌==◌, ◌+◌, ◌-◌, ◌++◌, Bool, true, false, List, [], ◌∷◌, map, length, Option, Some, None}
+use Rattle.std.specs.Prelude.{◌≡◌, ◌≤◌, ℕ, pos, ◌==◌, nat_le, ◌+◌, ◌-◌, ◌++◌, ◌&&◌, Bool, true, false, if◌then◌else◌, List, [], ◌∷◌, map, length, Option, Some, None}
+use Rattle.std.proofs.Common.{zero, suc, refl, sym, ap, ◌∙◌, subst, arith}
+use Rattle.std.proofs.lemmas.Bool.{leb-true, eqb-true}
 use Rattle.std.specs.List.{AllByRecursion}
 use Rattle.tokens.specs.Codes.{input_code, the_code, expandafter_code, toks_code, csname_code, number_code, romannumeral_code, else_code, or_code, fi_code}
-use Rattle.tokens.specs.declared.kind.Kind.TheVariants.{MissingEndcsname, MissingLeftBrace}
+use Rattle.tokens.specs.declared.kind.Kind.TheVariants.{MissingEndcsname, MissingLeftBrace, BadParameter}
 use Rattle.tokens.specs.declared.token.Token.{Token}
 use Rattle.tokens.specs.declared.token.Token.TheVariants as token
 use Rattle.tokens.specs.declared.meaning.Macro.{Macro}
@@ -17,12 +19,15 @@ use Rattle.scan_nums.specs.declared.number.Quantity.{Quantity}
 use Rattle.scan_nums.specs.declared.verdict.Verdict.{Verdict}
 use Rattle.scan_nums.specs.declared.verdict.Verdict.TheVariants as verdict
 use Rattle.scan_nums.specs.Number.{first_number}
-use Rattle.scan_nums.specs.Starts.{is_space}
+use Rattle.scan_nums.specs.Starts.{is_space, is_from_to}
 use Rattle.scan_nums.specs.WholeNumber.{whole_number, wants_character}
 use Rattle.macro_args.specs.BraceCount.{is_left, is_right}
+use Rattle.macro_args.specs.ParameterText.{parts_of}
 use Rattle.macro_args.specs.Arguments.{Use, Open, Complete, Unfit, use_of}
 use Rattle.conditionals.specs.Branches.{Stopping, stop_of}
 use Rattle.gullet.specs.declared.context.Context.{Context}
+use Rattle.gullet.specs.declared.in_text.Purpose.{Purpose}
+use Rattle.gullet.specs.declared.in_text.Purpose.TheVariants.{Alone, Body}
 use Rattle.gullet.specs.declared.task.Task.{Task}
 use Rattle.gullet.specs.declared.task.Task.TheVariants as task
 use Rattle.gullet.specs.declared.task.Test.{Test}
@@ -41,11 +46,15 @@ use Rattle.gullet.specs.declared.task.Want.TheVariants as want
 use Rattle.gullet.specs.declared.task.BranchWord.{BranchWord}
 use Rattle.gullet.specs.Meanings.{is_looked_at, expansion, expansion_of_code, as_task, test_of, simple_of}
 use Rattle.gullet.specs.Wants
-use Rattle.gullet.specs.Wants.{Taken, Tok, Got, Was, Place, Ahead, Behind, done, scanned, last_token, given_back, number_want, told_of, goes_on, word_told, token_of, byte_of, letter_of, only, relation_of, tokens_in, was_done, matching, wants}
+use Rattle.gullet.specs.Wants.{Taken, Tok, Got, Was, Place, Ahead, Behind, BehindSign, done, scanned, last_token, given_back, number_want, told_of, goes_on, word_told, token_of, byte_of, letter_of, only, relation_of, tokens_in, was_done, matching, wants}
 use Rattle.gullet.specs.Sound.{Known, IsSoundBeside, IsParameter, IsSoundToken, AreSoundTokens, IsSoundSome, IsSoundMacro, IsSoundMeaning}
-use Rattle.gullet.specs.SoundPhrases.{IsSoundTask, IsSoundSomeTask, IsSoundTold, IsSoundTaken, AreSoundTaken, IsSoundWant}
+use Rattle.gullet.specs.SoundPhrases.{IsSoundTask, IsSoundSomeTask, IsSoundTold, IsSoundTaken, AreSoundTaken, IsSoundWant, as_macro}
 use Rattle.gullet.specs.SoundKept.{either, each_map, each_two}
 use Rattle.gullet.specs.SoundArguments.{UseHolds, use_holds}
+
+both_hold : (a b : Bool) → (a && b) ≡ true → (a ≡ true) × (b ≡ true)
+both_hold true b e = (refl, e)
+both_hold false b e = (e, cc)
 
 module _ (k : Known) where
   -- ---- what was taken
@@ -366,11 +375,11 @@ module _ (k : Known) where
 
   -- ---- texts
 
-  longer_sound : (further : List Token → Want) (tokens more : List Token) (taken : List Taken) → AreSoundTokens k tokens → AreSoundTokens k more
-      → ((all : List Token) → AreSoundTokens k all → IsSoundWant k (further all)) → IsSoundWant k (Wants.longer further tokens more taken)
-  longer_sound further tokens more taken h g f =
+  longer_holds : (P : Token → Type 0) (further : List Token → Want) (tokens more : List Token) (taken : List Taken) → AllByRecursion P tokens → AllByRecursion P more
+      → ((all : List Token) → AllByRecursion P all → IsSoundWant k (further all)) → IsSoundWant k (Wants.longer further tokens more taken)
+  longer_holds P further tokens more taken h g f =
       either (IsSoundWant k) (Wants.fits (length tokens) (length more)) (further (tokens ++ more)) (only (want.Act act.Full) taken)
-      (f (tokens ++ more) (each_two (IsSoundToken k) tokens more h g)) (only_sound (want.Act act.Full) taken tt)
+      (f (tokens ++ more) (each_two P tokens more h g)) (only_sound (want.Act act.Full) taken tt)
 
   tokens_told_sound : (tells : Told) → IsSoundTold k tells → AreSoundTokens k (Wants.tokens_told tells)
   tokens_told_sound told.Done h = tt
@@ -381,6 +390,7 @@ module _ (k : Known) where
   tokens_told_sound (told.Text text) h = tt
   tokens_told_sound (told.Holds b) h = tt
   tokens_told_sound (told.Tokens tokens) h = h
+  tokens_told_sound (told.Definition parameters body) h = tt
 
   opened_sound : (inside : Want) (m : Meaning) → IsSoundWant k inside → IsSoundWant k (Wants.text_opened inside m)
   opened_sound inside m h = either (IsSoundWant k) (Wants.is_left_brace m) inside (want.Wrong MissingLeftBrace) h tt
@@ -408,38 +418,248 @@ module _ (k : Known) where
   expansion_in_sound true t m h g = text_expansion_sound t m h g
   expansion_in_sound false t m h g = tt
 
-  text_by_sound : (further : ℕ → List Token → Want) (tokens : List Token) (depth : ℕ) (t : Token) (taken : List Taken) → AreSoundTokens k tokens → IsSoundToken k t
-      → ((inside : ℕ) (all : List Token) → AreSoundTokens k all → IsSoundWant k (further inside all)) → IsSoundWant k (Wants.text_by further tokens depth t taken)
-  text_by_sound further tokens depth t taken h g f =
-      either (IsSoundWant k) (is_left t) _ _ (longer_sound (further (depth + 1)) tokens (t ∷ []) taken h (g, tt) (f (depth + 1)))
-      (either (IsSoundWant k) (is_right t) _ _
-      (either (IsSoundWant k) (depth == 0) (want.Gives (told.Tokens tokens) None) _ (h, tt) (longer_sound (further (depth - 1)) tokens (t ∷ []) taken h (g, tt) (f (depth - 1))))
-      (longer_sound (further depth) tokens (t ∷ []) taken h (g, tt) (f depth)))
+  -- the arguments that a text may have: those of the macro's parameters, and none where it is no macro's
+  abbrev IsArgument : Purpose → ℕ → Type 0
+  IsArgument Alone number = ⊥
+  IsArgument (Body parameters count brace) number = (1 ≤ number) × (number ≤ count)
+
+  abbrev IsSoundIn : Purpose → Token → Type 0
+  IsSoundIn purpose t = IsSoundBeside (IsArgument purpose) k t
+
+  -- a token that is no argument may stand anywhere
+  beside : (P : ℕ → Type 0) (t : Token) → IsSoundToken k t → IsSoundBeside P k t
+  beside P (token.Char cat byte) h = h
+  beside P (token.Active byte) h = h
+  beside P (token.Name id) h = h
+  beside P (token.Arg number) h = absurd h
+  beside P (token.Frozen number) h = h
+
+  all_beside : (P : ℕ → Type 0) (tokens : List Token) → AreSoundTokens k tokens → AllByRecursion (IsSoundBeside P k) tokens
+  all_beside P tokens h = each_map (IsSoundToken k) (IsSoundBeside P k) (beside P) tokens h
+
+  -- a text without arguments has only tokens that may stand anywhere
+  alone : (t : Token) → IsSoundIn Alone t → IsSoundToken k t
+  alone (token.Char cat byte) h = h
+  alone (token.Active byte) h = h
+  alone (token.Name id) h = h
+  alone (token.Arg number) h = h
+  alone (token.Frozen number) h = h
+
+  -- a parameter text: as many arguments stand in it as there are parameters
+  abbrev IsParameterText : List Token → ℕ → Type 0
+  IsParameterText tokens count = AllByRecursion (IsSoundBeside (λ number. Unit {0}) k) tokens × (count ≡ length (parts_of tokens).delimiters)
+
+  abbrev IsSoundPurpose : Purpose → Type 0
+  IsSoundPurpose Alone = Unit {0}
+  IsSoundPurpose (Body parameters count brace) = IsParameterText parameters count × IsSoundSome k brace
+
+  body_counted : (parameters : List Token) (count : ℕ) (t : Token) → count ≡ length (parts_of parameters).delimiters → IsSoundBeside (λ number. (1 ≤ number) × (number ≤ count)) k t
+      → IsSoundBeside (IsParameter (as_macro parameters [])) k t
+  body_counted parameters count (token.Char cat byte) e h = h
+  body_counted parameters count (token.Active byte) e h = h
+  body_counted parameters count (token.Name id) e h = h
+  body_counted parameters count (token.Arg number) e h = (h.0, subst (λ most. number ≤ most) e h.1)
+  body_counted parameters count (token.Frozen number) e h = h
+
+  definition_sound : (parameters : List Token) (count : ℕ) (brace : Option Token) (body : List Token) → IsParameterText parameters count
+      → AllByRecursion (IsSoundIn (Body parameters count brace)) body → IsSoundTold k (told.Definition parameters body)
+  definition_sound parameters count brace body p h = record {
+    params = p.0;
+    body = each_map (IsSoundIn (Body parameters count brace)) (IsSoundBeside (IsParameter (as_macro parameters [])) k) (λ t a. body_counted parameters count t p.1 a) body h;
+  }
+
+  body_ended_sound : (parameters : List Token) (count : ℕ) (brace : Option Token) (tokens : List Token) (taken : List Taken) → IsParameterText parameters count
+      → IsSoundSome k brace → AllByRecursion (IsSoundIn (Body parameters count brace)) tokens → IsSoundWant k (Wants.body_ended parameters brace tokens taken)
+  body_ended_sound parameters count None tokens taken p b h = (definition_sound parameters count None tokens p h, tt)
+  body_ended_sound parameters count (Some brace) tokens taken p b h =
+      longer_holds (IsSoundIn (Body parameters count (Some brace))) (λ all. want.Gives (told.Definition parameters all) None) tokens (brace ∷ []) taken h
+      (beside (IsArgument (Body parameters count (Some brace))) brace b, tt) (λ all a. (definition_sound parameters count (Some brace) all p a, tt))
+
+  text_ended_sound : (purpose : Purpose) (tokens : List Token) (taken : List Taken) → IsSoundPurpose purpose → AllByRecursion (IsSoundIn purpose) tokens
+      → IsSoundWant k (Wants.text_ended purpose tokens taken)
+  text_ended_sound Alone tokens taken p h = (each_map (IsSoundIn Alone) (IsSoundToken k) alone tokens h, tt)
+  text_ended_sound (Body parameters count brace) tokens taken p h = body_ended_sound parameters count brace tokens taken p.0 p.1 h
 
   -- an expansion in front of which a text is
   abbrev IsSoundPlace : Place → Type 0
   IsSoundPlace Ahead = Unit {0}
   IsSoundPlace (Behind inner) = IsSoundTask k inner
+  IsSoundPlace BehindSign = Unit {0}
 
-  gathered_by_sound : (further : Place → ℕ → List Token → Want) (tokens : List Token) (depth : ℕ) (t : Token) (inner : Option Task) (taken : List Taken)
-      → AreSoundTokens k tokens → IsSoundToken k t → IsSoundSomeTask k inner
-      → ((place : Place) (inside : ℕ) (all : List Token) → IsSoundPlace place → AreSoundTokens k all → IsSoundWant k (further place inside all))
-      → IsSoundWant k (Wants.gathered_by further tokens depth t inner taken)
-  gathered_by_sound further tokens depth t None taken h g i f = text_by_sound (further Ahead) tokens depth t taken h g (λ inside all a. f Ahead inside all tt a)
-  gathered_by_sound further tokens depth t (Some inner) taken h g i f = f (Behind inner) depth tokens i h
+  abbrev FurtherSound : Purpose → (Place → ℕ → List Token → Want) → Type 0
+  FurtherSound purpose further =
+      (place : Place) (inside : ℕ) (all : List Token) → IsSoundPlace place → AllByRecursion (IsSoundIn purpose) all → IsSoundWant k (further place inside all)
 
-  gathered_sound : (expanded : Bool) (place : Place) (depth : ℕ) (tokens : List Token) (taken : List Taken) → IsSoundPlace place → AreSoundTokens k tokens
-      → AreSoundTaken k taken → IsSoundWant k (Wants.gathered expanded place depth tokens taken)
-  gathered_sound expanded Ahead depth tokens [] p h g = tt
-  gathered_sound expanded (Behind inner) depth tokens [] p h g = p
-  gathered_sound expanded Ahead depth tokens (x ∷ rest) p h g =
-      gathered_by_sound (λ place inside more. Wants.gathered expanded place inside more rest) tokens depth (token_of x)
-      (Wants.expansion_in expanded (token_of x) (Wants.meaning_of x)) rest h (token_of_sound x g.0)
+  other_by_sound : (purpose : Purpose) (further : Place → ℕ → List Token → Want) (depth : ℕ) (is_sign : Bool) (tokens : List Token) (t : Token) (taken : List Taken)
+      → FurtherSound purpose further → AllByRecursion (IsSoundIn purpose) tokens → IsSoundToken k t
+      → IsSoundWant k (Wants.other_by (λ place more. further place depth more) is_sign tokens t taken)
+  other_by_sound purpose further depth true tokens t taken f h g = f BehindSign depth tokens tt h
+  other_by_sound purpose further depth false tokens t taken f h g =
+      longer_holds (IsSoundIn purpose) (further Ahead depth) tokens (t ∷ []) taken h (beside (IsArgument purpose) t g, tt) (λ all a. f Ahead depth all tt a)
+
+  text_by_sound : (further : Place → ℕ → List Token → Want) (purpose : Purpose) (tokens : List Token) (depth : ℕ) (t : Token) (m : Meaning) (taken : List Taken)
+      → IsSoundPurpose purpose → AllByRecursion (IsSoundIn purpose) tokens → IsSoundToken k t → FurtherSound purpose further
+      → IsSoundWant k (Wants.text_by further purpose tokens depth t m taken)
+  text_by_sound further purpose tokens depth t m taken p h g f =
+      either (IsSoundWant k) (is_left t) _ _ (one (depth + 1))
+      (either (IsSoundWant k) (is_right t) _ _
+      (either (IsSoundWant k) (depth == 0) (Wants.text_ended purpose tokens taken) _ (text_ended_sound purpose tokens taken p h) (one (depth - 1)))
+      (other_by_sound purpose further depth (Wants.has_signs purpose && Wants.is_sign m) tokens t taken f h g))
+    where
+      one : (inside : ℕ) → IsSoundWant k (Wants.longer (further Ahead inside) tokens (t ∷ []) taken)
+      one inside = longer_holds (IsSoundIn purpose) (further Ahead inside) tokens (t ∷ []) taken h (beside (IsArgument purpose) t g, tt) (λ all a. f Ahead inside all tt a)
+
+  gathered_by_sound : (further : Place → ℕ → List Token → Want) (purpose : Purpose) (tokens : List Token) (depth : ℕ) (t : Token) (m : Meaning) (inner : Option Task)
+      (taken : List Taken) → IsSoundPurpose purpose → AllByRecursion (IsSoundIn purpose) tokens → IsSoundToken k t → IsSoundSomeTask k inner
+      → FurtherSound purpose further → IsSoundWant k (Wants.gathered_by further purpose tokens depth t m inner taken)
+  gathered_by_sound further purpose tokens depth t m None taken p h g i f = text_by_sound further purpose tokens depth t m taken p h g f
+  gathered_by_sound further purpose tokens depth t m (Some inner) taken p h g i f = f (Behind inner) depth tokens i h
+
+  -- the digit behind a sign is that of a parameter
+  argument_sound : (purpose : Purpose) (number : ℕ) → is_from_to 1 (Wants.parameter_count purpose) number ≡ true → IsSoundIn purpose (token.Arg number)
+  argument_sound Alone number e =
+      let holds = both_hold (nat_le 1 number) (nat_le number 0) e in
+      let first : 1 ≤ number = leb-true 1 number holds.0 in
+      let last : number ≤ 0 = leb-true number 0 holds.1 in
+      absurd (omega (arith, first, last))
+  argument_sound (Body parameters count brace) number e =
+      let holds = both_hold (nat_le 1 number) (nat_le number count) e in
+      (leb-true 1 number holds.0, leb-true number count holds.1)
+
+  signed_by_sound : (purpose : Purpose) (further : List Token → Want) (tokens : List Token) (t : Token) (m : Meaning) (taken : List Taken)
+      → AllByRecursion (IsSoundIn purpose) tokens → IsSoundToken k t → ((all : List Token) → AllByRecursion (IsSoundIn purpose) all → IsSoundWant k (further all))
+      → IsSoundWant k (Wants.signed_by further (Wants.parameter_count purpose) tokens t m taken)
+  signed_by_sound purpose further tokens t m taken h g f =
+      either (IsSoundWant k) (Wants.is_sign m) _ _
+      (longer_holds (IsSoundIn purpose) further tokens (t ∷ []) taken h (beside (IsArgument purpose) t g, tt) f)
+      (numbered (is_from_to 1 (Wants.parameter_count purpose) (Wants.digit t)) refl)
+    where
+      numbered : (b : Bool) → is_from_to 1 (Wants.parameter_count purpose) (Wants.digit t) ≡ b
+          → IsSoundWant k (if b then Wants.longer further tokens (token.Arg (Wants.digit t) ∷ []) taken else want.Wrong BadParameter)
+      numbered true e = longer_holds (IsSoundIn purpose) further tokens (token.Arg (Wants.digit t) ∷ []) taken h (argument_sound purpose (Wants.digit t) e, tt) f
+      numbered false e = tt
+
+  behind_sign_sound : (expanded : Bool) → IsSoundWant k (Wants.behind_sign expanded)
+  behind_sign_sound true = tt
+  behind_sign_sound false = tt
+
+  gathered_sound : (purpose : Purpose) (expanded : Bool) (place : Place) (depth : ℕ) (tokens : List Token) (taken : List Taken) → IsSoundPurpose purpose
+      → IsSoundPlace place → AllByRecursion (IsSoundIn purpose) tokens → AreSoundTaken k taken → IsSoundWant k (Wants.gathered purpose expanded place depth tokens taken)
+  gathered_sound purpose expanded Ahead depth tokens [] p q h g = tt
+  gathered_sound purpose expanded (Behind inner) depth tokens [] p q h g = q
+  gathered_sound purpose expanded BehindSign depth tokens [] p q h g = behind_sign_sound expanded
+  gathered_sound purpose expanded Ahead depth tokens (x ∷ rest) p q h g =
+      gathered_by_sound (λ place inside more. Wants.gathered purpose expanded place inside more rest) purpose tokens depth (token_of x) (Wants.meaning_of x)
+      (Wants.expansion_in expanded (token_of x) (Wants.meaning_of x)) rest p h (token_of_sound x g.0)
       (expansion_in_sound expanded (token_of x) (Wants.meaning_of x) (token_of_sound x g.0) (meaning_of_sound x g.0))
-      (λ place inside more q a. gathered_sound expanded place inside more rest q a g.1)
-  gathered_sound expanded (Behind inner) depth tokens (x ∷ rest) p h g =
-      longer_sound (λ more. Wants.gathered expanded Ahead depth more rest) tokens (Wants.tokens_told (told_of x)) rest h (tokens_told_sound (told_of x) (told_of_sound x g.0))
-      (λ more a. gathered_sound expanded Ahead depth more rest tt a g.1)
+      (λ place inside more r a. gathered_sound purpose expanded place inside more rest p r a g.1)
+  gathered_sound purpose expanded (Behind inner) depth tokens (x ∷ rest) p q h g =
+      longer_holds (IsSoundIn purpose) (λ more. Wants.gathered purpose expanded Ahead depth more rest) tokens (Wants.tokens_told (told_of x)) rest h
+      (all_beside (IsArgument purpose) (Wants.tokens_told (told_of x)) (tokens_told_sound (told_of x) (told_of_sound x g.0)))
+      (λ more a. gathered_sound purpose expanded Ahead depth more rest p tt a g.1)
+  gathered_sound purpose expanded BehindSign depth tokens (x ∷ rest) p q h g =
+      signed_by_sound purpose (λ more. Wants.gathered purpose expanded Ahead depth more rest) tokens (token_of x) (Wants.meaning_of x) rest h (token_of_sound x g.0)
+      (λ more a. gathered_sound purpose expanded Ahead depth more rest p tt a g.1)
+
+  -- ---- parameter texts
+
+  -- one token more in a parameter text, with the parameters that it is
+  abbrev more_parameters : Token → ℕ
+  more_parameters (token.Char cat byte) = 0
+  more_parameters (token.Active byte) = 0
+  more_parameters (token.Name id) = 0
+  more_parameters (token.Arg number) = 1
+  more_parameters (token.Frozen number) = 0
+
+  counted_on : (t : Token) (tokens : List Token) → length (parts_of (t ∷ tokens)).delimiters ≡ more_parameters t + length (parts_of tokens).delimiters
+  counted_on (token.Char cat byte) tokens = omega arith
+  counted_on (token.Active byte) tokens = omega arith
+  counted_on (token.Name id) tokens = omega arith
+  counted_on (token.Arg number) tokens = omega arith
+  counted_on (token.Frozen number) tokens = omega arith
+
+  counted_behind : (tokens : List Token) (t : Token) → length (parts_of (tokens ++ t ∷ [])).delimiters ≡ length (parts_of tokens).delimiters + more_parameters t
+  counted_behind [] t = rw (counted_on t []) (omega arith)
+  counted_behind (x ∷ tokens) t =
+      rw (counted_on x (tokens ++ t ∷ [])) (rw (counted_on x tokens) (rw (counted_behind tokens t) (omega arith)))
+
+  one_no_argument : (t : Token) → IsSoundToken k t → more_parameters t ≡ 0
+  one_no_argument (token.Char cat byte) h = refl
+  one_no_argument (token.Active byte) h = refl
+  one_no_argument (token.Name id) h = refl
+  one_no_argument (token.Arg number) h = absurd h
+  one_no_argument (token.Frozen number) h = refl
+
+  -- a token behind a parameter text
+  with_one : (tokens : List Token) (count : ℕ) (t : Token) → IsParameterText tokens count → IsSoundToken k t → IsParameterText (tokens ++ t ∷ []) count
+  with_one tokens count t p h = (
+    each_two (IsSoundBeside (λ number. Unit {0}) k) tokens (t ∷ []) p.0 (beside (λ number. Unit {0}) t h, tt),
+    p.1 ∙ sym (counted_behind tokens t ∙ rw (one_no_argument t h) (omega arith)),
+  )
+
+  is_next_sound : (count number : ℕ) → Wants.is_next count number ≡ true → number ≡ count + 1
+  is_next_sound count number e =
+      let holds = both_hold (nat_le 1 number) (number - 1 == count) e in
+      let first : 1 ≤ number = leb-true 1 number holds.0 in
+      let same : number - 1 ≡ count = eqb-true (number - 1) count holds.1 in
+      omega (arith, first, same)
+
+  -- the next parameter behind a parameter text
+  with_next : (tokens : List Token) (count number : ℕ) → IsParameterText tokens count → Wants.is_next count number ≡ true
+      → IsParameterText (tokens ++ token.Arg number ∷ []) number
+  with_next tokens count number p e = (
+    each_two (IsSoundBeside (λ number. Unit {0}) k) tokens (token.Arg number ∷ []) p.0 (tt, tt),
+    is_next_sound count number e ∙ ap (λ n. n + 1) p.1 ∙ sym (counted_behind tokens (token.Arg number)),
+  )
+
+  -- a parameter text that gets longer
+  longer_front : (count : ℕ) (further : List Token → Want) (tokens : List Token) (t : Token) (taken : List Taken) → IsParameterText (tokens ++ t ∷ []) count
+      → ((all : List Token) → IsParameterText all count → IsSoundWant k (further all)) → IsSoundWant k (Wants.longer further tokens (t ∷ []) taken)
+  longer_front count further tokens t taken p f =
+      either (IsSoundWant k) (Wants.fits (length tokens) 1) (further (tokens ++ t ∷ [])) (only (want.Act act.Full) taken)
+      (f (tokens ++ t ∷ []) p) (only_sound (want.Act act.Full) taken tt)
+
+  body_opened_sound : (expanded : Bool) (count : ℕ) (brace : Option Token) (taken : List Taken) (parameters : List Token) → IsParameterText parameters count
+      → IsSoundSome k brace → AreSoundTaken k taken → IsSoundWant k (Wants.body_opened expanded count brace taken parameters)
+  body_opened_sound expanded count brace taken parameters p b g =
+      gathered_sound (Body parameters count brace) expanded Ahead 0 [] taken (p, b) tt tt g
+
+  front_by_sound : (count : ℕ) (further : List Token → Want) (opened signed : Want) (tokens : List Token) (t : Token) (m : Meaning) (taken : List Taken)
+      → IsParameterText tokens count → IsSoundToken k t → ((all : List Token) → IsParameterText all count → IsSoundWant k (further all))
+      → IsSoundWant k opened → IsSoundWant k signed → IsSoundWant k (Wants.front_by further opened signed tokens t m taken)
+  front_by_sound count further opened signed tokens t m taken p h f o s =
+      either (IsSoundWant k) (is_left t) _ _ o
+      (either (IsSoundWant k) (is_right t) _ _ tt
+      (either (IsSoundWant k) (Wants.is_sign m) _ _ s (longer_front count further tokens t taken (with_one tokens count t p h) f)))
+
+  parameter_by_sound : (opened : List Token → Want) (numbered : ℕ → List Token → Want) (count : ℕ) (tokens : List Token) (t : Token) (m : Meaning) (taken : List Taken)
+      → IsParameterText tokens count → IsSoundToken k t → ((all : List Token) → IsParameterText all count → IsSoundWant k (opened all))
+      → ((number : ℕ) (all : List Token) → IsParameterText all number → IsSoundWant k (numbered number all))
+      → IsSoundWant k (Wants.parameter_by opened numbered count tokens t m taken)
+  parameter_by_sound opened numbered count tokens t m taken p h o n =
+      either (IsSoundWant k) (Wants.is_left_brace m) _ _ (longer_front count opened tokens t taken (with_one tokens count t p h) o)
+      (by_digit (Wants.is_next count (Wants.digit t)) refl)
+    where
+      by_digit : (b : Bool) → Wants.is_next count (Wants.digit t) ≡ b
+          → IsSoundWant k (if b then Wants.longer (numbered (Wants.digit t)) tokens (token.Arg (Wants.digit t) ∷ []) taken else want.Wrong BadParameter)
+      by_digit true e =
+          longer_front (Wants.digit t) (numbered (Wants.digit t)) tokens (token.Arg (Wants.digit t)) taken (with_next tokens count (Wants.digit t) p e) (n (Wants.digit t))
+      by_digit false e = tt
+
+  front_sound : (expanded signed : Bool) (count : ℕ) (tokens : List Token) (taken : List Taken) → IsParameterText tokens count → AreSoundTaken k taken
+      → IsSoundWant k (Wants.front expanded signed count tokens taken)
+  front_sound expanded false count tokens [] p g = tt
+  front_sound expanded true count tokens [] p g = tt
+  front_sound expanded false count tokens (x ∷ rest) p g =
+      front_by_sound count (λ more. Wants.front expanded false count more rest) (Wants.body_opened expanded count None rest tokens)
+      (Wants.front expanded true count tokens rest) tokens (token_of x) (Wants.meaning_of x) rest p (token_of_sound x g.0)
+      (λ more a. front_sound expanded false count more rest a g.1) (body_opened_sound expanded count None rest tokens p tt g.1)
+      (front_sound expanded true count tokens rest p g.1)
+  front_sound expanded true count tokens (x ∷ rest) p g =
+      parameter_by_sound (Wants.body_opened expanded count (Some (token_of x)) rest) (λ number more. Wants.front expanded false number more rest) count tokens
+      (token_of x) (Wants.meaning_of x) rest p (token_of_sound x g.0)
+      (λ more a. body_opened_sound expanded count (Some (token_of x)) rest more a (token_of_sound x g.0) g.1)
+      (λ number more a. front_sound expanded false number more rest a g.1)
 
   -- ---- macro calls
 
@@ -486,5 +706,6 @@ module _ (k : Known) where
   wants_sound c (task.Input t) taken h g = input_sound t c.naming taken h
   wants_sound c task.FileName taken h g = file_sound taken g
   wants_sound c (task.Text expanded) taken h g =
-      text_want_sound (Wants.gathered expanded Ahead 0 []) taken g (λ rest a. gathered_sound expanded Ahead 0 [] rest tt tt a)
+      text_want_sound (Wants.gathered Alone expanded Ahead 0 []) taken g (λ rest a. gathered_sound Alone expanded Ahead 0 [] rest tt tt tt a)
+  wants_sound c (task.Definition expanded) taken h g = front_sound expanded false 0 [] taken (tt, refl) g
   wants_sound c (task.Simple thing) taken h g = only_sound (want.Act (act.Simple thing)) taken tt

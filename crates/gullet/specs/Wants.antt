@@ -3,7 +3,7 @@ use Rattle.std.specs.Prelude.{ℕ, ℤ, pos, negsuc, ◌==◌, ◌+◌, ◌-◌,
 use Rattle.tokens.specs.Codes.{endcsname_code, par_code, relax_code}
 use Rattle.tokens.specs.Cap.{cap_limit}
 use Rattle.tokens.specs.declared.cap.Cap.TheVariants.{Items}
-use Rattle.tokens.specs.declared.kind.Kind.TheVariants.{MissingRelation, MissingEndcsname, MissingLeftBrace, LeftOut}
+use Rattle.tokens.specs.declared.kind.Kind.TheVariants.{MissingRelation, MissingEndcsname, MissingLeftBrace, BadParameter, LeftOut}
 use Rattle.tokens.specs.declared.token.Token.{Token}
 use Rattle.tokens.specs.declared.token.Token.TheVariants as token
 use Rattle.tokens.specs.declared.meaning.Macro.{Macro}
@@ -27,6 +27,8 @@ use Rattle.macro_args.specs.BraceCount.{is_left, is_right}
 use Rattle.macro_args.specs.Arguments.{Use, Open, Complete, Unfit, use_of}
 use Rattle.conditionals.specs.Branches.{Stopping, stop_of}
 use Rattle.gullet.specs.declared.context.Context.{Context}
+use Rattle.gullet.specs.declared.in_text.Purpose.{Purpose}
+use Rattle.gullet.specs.declared.in_text.Purpose.TheVariants.{Alone, Body}
 use Rattle.gullet.specs.declared.task.Task.{Task}
 use Rattle.gullet.specs.declared.task.Task.TheVariants as task
 use Rattle.gullet.specs.declared.task.Test.{Test}
@@ -86,6 +88,7 @@ number_told told.GoOn = number.Int (pos 0)
 number_told (told.Text text) = number.Int (pos 0)
 number_told (told.Holds b) = number.Int (pos 0)
 number_told (told.Tokens tokens) = number.Int (pos 0)
+number_told (told.Definition parameters body) = number.Int (pos 0)
 
 -- an inner phrase answers what was asked for; behind a trouble that was passed over the number goes on
 abbrev pub scanned : Taken → scan.Taken
@@ -269,6 +272,7 @@ word_told told.GoOn = 0
 word_told (told.Text text) = 0
 word_told (told.Holds b) = 0
 word_told (told.Tokens tokens) = 0
+word_told (told.Definition parameters body) = 0
 
 abbrev pub level_told : Told → ℕ
 level_told told.Done = 0
@@ -279,6 +283,7 @@ level_told told.GoOn = 0
 level_told (told.Text text) = 0
 level_told (told.Holds b) = 0
 level_told (told.Tokens tokens) = 0
+level_told (told.Definition parameters body) = 0
 
 abbrev pub goes_on : Told → Bool
 goes_on told.Done = false
@@ -289,6 +294,7 @@ goes_on told.GoOn = true
 goes_on (told.Text text) = false
 goes_on (told.Holds b) = false
 goes_on (told.Tokens tokens) = false
+goes_on (told.Definition parameters body) = false
 
 abbrev pub holds_told : Told → Bool
 holds_told told.Done = false
@@ -299,6 +305,7 @@ holds_told told.GoOn = false
 holds_told (told.Text text) = false
 holds_told (told.Holds b) = b
 holds_told (told.Tokens tokens) = false
+holds_told (told.Definition parameters body) = false
 
 -- the branch in front of \else is passed over, up to the condition's own \else or \fi
 abbrev pub false_want : ℕ → List Taken → Want
@@ -583,6 +590,7 @@ text_told told.GoOn = []
 text_told (told.Text text) = text
 text_told (told.Holds b) = []
 text_told (told.Tokens tokens) = []
+text_told (told.Definition parameters body) = []
 
 -- \input: a name, and its file. Where the name of a file is being read, \relax is inserted in front of it, which ends
 -- that name (tex.web 378)
@@ -594,7 +602,7 @@ input_by t true taken = only (Act (act.InsertRelax t)) taken
 input_by t false [] = Inner task.FileName
 input_by t false (x ∷ rest) = named_want (told_of x) rest
 
--- ---- texts (The TeXbook, chapter 20, page 215, and chapter 24, page 276; tex.web 473 to 478)
+-- ---- texts (The TeXbook, chapter 20, pages 203, 204 and 215, and chapter 24, page 276; tex.web 473 to 479)
 
 -- a list has at most so many tokens
 abbrev pub fits : ℕ → ℕ → Bool
@@ -612,6 +620,7 @@ tokens_told told.GoOn = []
 tokens_told (told.Text text) = []
 tokens_told (told.Holds b) = []
 tokens_told (told.Tokens tokens) = tokens
+tokens_told (told.Definition parameters body) = []
 
 -- whether it means a character of this category, also where a name stands for that
 abbrev pub means_category : ℕ → Meaning → Bool
@@ -654,30 +663,118 @@ abbrev pub expansion_in : Bool → Token → Meaning → Option Task
 expansion_in true t m = text_expansion t m
 expansion_in false t m = None
 
--- where a text is: in front of its next token, or of what an expansion in it tells
+-- a character of category 6, which is the sign of parameters, also where a name stands for that
+abbrev pub is_sign : Meaning → Bool
+is_sign m = means_category 6 m
+
+-- only in a macro's text signs are looked for: they are no part of a text that is read for itself
+abbrev pub has_signs : Purpose → Bool
+has_signs Alone = false
+has_signs (Body parameters count brace) = true
+
+-- how many parameters there are
+abbrev pub parameter_count : Purpose → ℕ
+parameter_count Alone = 0
+parameter_count (Body parameters count brace) = count
+
+-- the number that one digit from 1 to 9 writes, as a character of category 12
+abbrev pub digit : Token → ℕ
+digit (token.Char cat byte) = if (cat == 12) && is_from_to 49 57 byte then byte - 48 else 0
+digit (token.Active byte) = 0
+digit (token.Name id) = 0
+digit (token.Arg number) = 0
+digit (token.Frozen number) = 0
+
+-- a macro's text ends: where its parameter text ended in a left brace, that stands at its end, too (tex.web 476)
+abbrev pub body_ended : List Token → Option Token → List Token → List Taken → Want
+body_ended parameters None tokens taken = Gives (told.Definition parameters tokens) None
+body_ended parameters (Some brace) tokens taken = longer (λ all. Gives (told.Definition parameters all) None) tokens (brace ∷ []) taken
+
+abbrev pub text_ended : Purpose → List Token → List Taken → Want
+text_ended Alone tokens taken = Gives (told.Tokens tokens) None
+text_ended (Body parameters count brace) tokens taken = body_ended parameters brace tokens taken
+
+-- where a text is: in front of its next token, of what an expansion in it tells, or of what stands behind a sign
 pub data Place : Type 0 where
   Ahead : Place
   Behind : Task → Place
+  BehindSign : Place
 
 -- a token that isn't expanded: characters that are braces are counted, and the right one that has no partner ends the text
--- (tex.web 477)
-abbrev pub text_by : (ℕ → List Token → Want) → List Token → ℕ → Token → List Taken → Want
-text_by further tokens depth t taken =
-    if is_left t then longer (further (depth + 1)) tokens (t ∷ []) taken
-    else if is_right t then (if depth == 0 then Gives (told.Tokens tokens) None else longer (further (depth - 1)) tokens (t ∷ []) taken)
-    else longer (further depth) tokens (t ∷ []) taken
+-- (tex.web 477). A sign of a macro's text says something of what stands behind it (tex.web 479)
+abbrev pub other_by : (Place → List Token → Want) → Bool → List Token → Token → List Taken → Want
+other_by further true tokens t taken = further BehindSign tokens
+other_by further false tokens t taken = longer (further Ahead) tokens (t ∷ []) taken
 
-abbrev pub gathered_by : (Place → ℕ → List Token → Want) → List Token → ℕ → Token → Option Task → List Taken → Want
-gathered_by further tokens depth t None taken = text_by (further Ahead) tokens depth t taken
-gathered_by further tokens depth t (Some inner) taken = further (Behind inner) depth tokens
+abbrev pub text_by : (Place → ℕ → List Token → Want) → Purpose → List Token → ℕ → Token → Meaning → List Taken → Want
+text_by further purpose tokens depth t m taken =
+    if is_left t then longer (further Ahead (depth + 1)) tokens (t ∷ []) taken
+    else if is_right t then (if depth == 0 then text_ended purpose tokens taken else longer (further Ahead (depth - 1)) tokens (t ∷ []) taken)
+    else other_by (λ place more. further place depth more) (has_signs purpose && is_sign m) tokens t taken
+
+abbrev pub gathered_by : (Place → ℕ → List Token → Want) → Purpose → List Token → ℕ → Token → Meaning → Option Task → List Taken → Want
+gathered_by further purpose tokens depth t m None taken = text_by further purpose tokens depth t m taken
+gathered_by further purpose tokens depth t m (Some inner) taken = further (Behind inner) depth tokens
+
+-- behind a sign stands another one, which is the character that is wanted, or the digit of a parameter (tex.web 479)
+abbrev pub signed_by : (List Token → Want) → ℕ → List Token → Token → Meaning → List Taken → Want
+signed_by further count tokens t m taken =
+    if is_sign m then longer further tokens (t ∷ []) taken
+    else if is_from_to 1 count (digit t) then longer further tokens (token.Arg (digit t) ∷ []) taken
+    else Wrong BadParameter
+
+-- in an expanded text what stands behind a sign is expanded, too, up to a token that isn't
+abbrev pub behind_sign : Bool → Want
+behind_sign true = Expanded
+behind_sign false = Raw
 
 -- behind the left brace: so many braces are open inside, and these are the tokens so far
-abbrev pub gathered : Bool → Place → ℕ → List Token → List Taken → Want
-gathered expanded Ahead depth tokens [] = Raw
-gathered expanded (Behind inner) depth tokens [] = Inner inner
-gathered expanded Ahead depth tokens (x ∷ rest) =
-    gathered_by (λ place inside more. gathered expanded place inside more rest) tokens depth (token_of x) (expansion_in expanded (token_of x) (meaning_of x)) rest
-gathered expanded (Behind inner) depth tokens (x ∷ rest) = longer (λ more. gathered expanded Ahead depth more rest) tokens (tokens_told (told_of x)) rest
+abbrev pub gathered : Purpose → Bool → Place → ℕ → List Token → List Taken → Want
+gathered purpose expanded Ahead depth tokens [] = Raw
+gathered purpose expanded (Behind inner) depth tokens [] = Inner inner
+gathered purpose expanded BehindSign depth tokens [] = behind_sign expanded
+gathered purpose expanded Ahead depth tokens (x ∷ rest) =
+    gathered_by (λ place inside more. gathered purpose expanded place inside more rest) purpose tokens depth (token_of x) (meaning_of x)
+    (expansion_in expanded (token_of x) (meaning_of x)) rest
+gathered purpose expanded (Behind inner) depth tokens (x ∷ rest) =
+    longer (λ more. gathered purpose expanded Ahead depth more rest) tokens (tokens_told (told_of x)) rest
+gathered purpose expanded BehindSign depth tokens (x ∷ rest) =
+    signed_by (λ more. gathered purpose expanded Ahead depth more rest) (parameter_count purpose) tokens (token_of x) (meaning_of x) rest
+
+-- ---- parameter texts (The TeXbook, chapter 20, pages 203 and 204; tex.web 474 to 476)
+
+-- whether this is the number of the next parameter
+abbrev pub is_next : ℕ → ℕ → Bool
+is_next count number = nat_le 1 number && (number - 1 == count)
+
+-- a token of a parameter text: it ends in front of the left brace of the macro's text
+abbrev pub front_by : (List Token → Want) → Want → Want → List Token → Token → Meaning → List Taken → Want
+front_by further opened signed tokens t m taken =
+    if is_left t then opened
+    else if is_right t then Wrong MissingLeftBrace
+    else if is_sign m then signed
+    else longer further tokens (t ∷ []) taken
+
+-- behind a sign stands the digit of the next parameter, or a left brace, which is its last delimiter and begins the text
+abbrev pub parameter_by : (List Token → Want) → (ℕ → List Token → Want) → ℕ → List Token → Token → Meaning → List Taken → Want
+parameter_by opened numbered count tokens t m taken =
+    if is_left_brace m then longer opened tokens (t ∷ []) taken
+    else if is_next count (digit t) then longer (numbered (digit t)) tokens (token.Arg (digit t) ∷ []) taken
+    else Wrong BadParameter
+
+-- the macro's text begins, with this parameter text in front of it
+abbrev pub body_opened : Bool → ℕ → Option Token → List Taken → List Token → Want
+body_opened expanded count brace taken parameters = gathered (Body parameters count brace) expanded Ahead 0 [] taken
+
+-- behind a sign or not, so many parameters are there, and these are the tokens so far
+abbrev pub front : Bool → Bool → ℕ → List Token → List Taken → Want
+front expanded signed count tokens [] = Raw
+front expanded false count tokens (x ∷ rest) =
+    front_by (λ more. front expanded false count more rest) (body_opened expanded count None rest tokens) (front expanded true count tokens rest)
+    tokens (token_of x) (meaning_of x) rest
+front expanded true count tokens (x ∷ rest) =
+    parameter_by (body_opened expanded count (Some (token_of x)) rest) (λ number more. front expanded false number more rest)
+    count tokens (token_of x) (meaning_of x) rest
 
 -- ---- all kinds
 
@@ -731,5 +828,6 @@ wants c (task.BranchEnd t word) taken = branch_end_want t word taken
 wants c task.NameText taken = name_from [] taken
 wants c (task.Input t) taken = input_by t c.naming taken
 wants c task.FileName taken = file_want taken
-wants c (task.Text expanded) taken = text_want (gathered expanded Ahead 0 []) taken
+wants c (task.Text expanded) taken = text_want (gathered Alone expanded Ahead 0 []) taken
+wants c (task.Definition expanded) taken = front expanded false 0 [] taken
 wants c (task.Simple simple) taken = only (Act (act.Simple simple)) taken

@@ -112,6 +112,14 @@ pub fn list_from(alloc: Global, tokens: &[Token]) -> Result<TokenList, AllocErro
     }
 }
 
+/// The list of the characters of a text that expansion makes.
+pub fn list_of_bytes(alloc: Global, text: &[u8]) -> Result<TokenList, AllocError>
+    ensures { IfOk result (λ list. list ≡ map other text.now) }
+{
+    let tokens = others(alloc, text)?;
+    list_from(alloc, &tokens)
+}
+
 /// What tells nothing but that it was done.
 pub fn done(pushed: Result<(), AllocError>) -> Result<Told, Stop>
     ensures { IsDone pushed result }
@@ -176,8 +184,7 @@ impl Gullet {
     pub(crate) fn push_bytes(&mut self, site: &Site, text: &[u8]) -> Result<(), AllocError>
         ensures ok { OnOk result (state_of self.new site.now ≡ with_bytes text.now (state_of self.old site.now)) }
     {
-        let tokens = others(self.alloc, text)?;
-        let list = list_from(self.alloc, &tokens)?;
+        let list = list_of_bytes(self.alloc, text)?;
         self.pending.push_list(list)
     }
 

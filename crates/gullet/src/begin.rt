@@ -1,5 +1,5 @@
 //! A phrase begins: what it wants first.
-#![tactic(auto, using(asking::specs::Asked::asking), unfolding(crate::specs::Wants::wants, crate::specs::Wants::last_token))]
+#![tactic(auto, using(asking::specs::Asked::asking), unfolding(crate::specs::Wants::wants, crate::specs::Wants::last_token, crate::specs::Progress::text_rest))]
 
 ghost use Rattle.std.specs.Prelude.{◌≡◌, [], ◌∷◌, true, pos, List, Option, IfOk};
 ghost use Rattle.gullet.specs.declared.context.Context.{Context};
@@ -8,6 +8,8 @@ ghost use Rattle.gullet.specs.Wants.{Taken, wants, quantity_by, takes_number, in
 
 use crate::calling::{Calling, Parts};
 use crate::context::Context;
+use crate::definition::definition_start;
+use crate::in_text::InText;
 use crate::progress::Progress;
 use crate::task::{Act, Arguments, ModeTest, Part, Task, Test, Want};
 use conditionals::SkipScan;
@@ -57,7 +59,8 @@ pub fn begin(alloc: Global, context: Context, task: Task) -> Result<(Progress, W
         )),
         Task::Input(token) => Ok(begin_input(context.naming, token)),
         Task::FileName => Ok((Progress::FileStart, Want::Expanded)),
-        Task::Text { expanded } => Ok((Progress::TextStart { expanded }, Want::Expanded)),
+        Task::Text { expanded } => Ok((Progress::Text(InText::Start { expanded }), Want::Expanded)),
+        Task::Definition { expanded } => Ok(definition_start(alloc, expanded)),
         Task::Simple(simple) => Ok(only(Act::Simple(simple))),
     }
 }

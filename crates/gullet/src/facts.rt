@@ -1,6 +1,7 @@
 //! What expansion is told of the rest of the run: the mode, the list that is built, the page, the fonts, the job.
 
 use scaled::Glue;
+use sqlite_items::Items;
 use tfm::Metrics;
 use tokens::{Text, Token};
 
@@ -20,7 +21,7 @@ pub struct FontFacts {
     /// None for `\nullfont`.
     pub metrics: Option<Metrics>,
     /// The font's parameters, from the first one on, in sp.
-    pub dimens: Vec<i32>,
+    pub dimens: Items<i32>,
     /// `\hyphenchar` and `\skewchar`.
     pub hyphen: i32,
     pub skew: i32,
@@ -49,6 +50,8 @@ pub struct Facts {
     pub open_inputs: [bool; 16],
     /// The name of the job, without bytes until it is set.
     pub job: Text,
+    /// The name of the file that was asked for last, without bytes until one is.
+    pub asked: Text,
     /// Whether the DVI file was created.
     pub dvi_open: bool,
     /// The magnification that was used first, 0 before that.
@@ -56,5 +59,5 @@ pub struct Facts {
     /// The token of `\afterassignment`.
     pub after: Option<Token>,
     /// The fonts by their numbers, `\nullfont` first.
-    pub fonts: Vec<FontFacts>,
+    pub fonts: Items<FontFacts>,
 }

@@ -1,6 +1,6 @@
 //! What is still to be read, with the conditions that are open.
 
-ghost use Rattle.std.specs.Prelude.{◌≡◌, [], false, min, OnOk, OnErr};
+ghost use Rattle.std.specs.Prelude.{◌≡◌, [], true, false, min, OnOk, OnErr};
 ghost use Rattle.pending.specs.Pending.{first_pending, line_number, open_files, with_list, with_back};
 
 use conditionals::IfStack;
@@ -57,5 +57,13 @@ impl Gullet {
         ensures err { OnErr result (self.new ≡ self.old) }
     {
         self.pending.back(token, false, paid)
+    }
+
+    /// Puts a token back as it was taken: where it isn't to be expanded it still isn't. Its step is paid.
+    pub fn back_as_taken(&mut self, token: Token, noexpand: bool) -> Result<(), AllocError>
+        ensures ok { OnOk result (self.new ≡ record self.old { pending = with_back token noexpand true self.old.pending }) }
+        ensures err { OnErr result (self.new ≡ self.old) }
+    {
+        self.pending.back(token, noexpand, true)
     }
 }

@@ -5,7 +5,7 @@ ghost use Rattle.std.specs.Prelude.{◌≡◌, OnOk, IfOk};
 ghost use Rattle.asking.specs.Did.{Does, DoesBy, Ended};
 ghost use Rattle.asking.specs.Seen.{DoesBeside, DoesBesideBy};
 ghost use Rattle.gullet.specs.State.{state_of};
-ghost use Rattle.gullet.specs.Acts.{with_job, is_no_output, not_found, begun, found, open_file, read_file};
+ghost use Rattle.gullet.specs.Acts.{with_job, is_no_output, with_asked, not_found, begun, found, open_file, read_file};
 
 use crate::file_name::{dvi_of, file_of, job_of};
 use crate::gullet::Gullet;
@@ -64,11 +64,22 @@ impl Gullet {
         if !is_no_output || !is_good_name(file) {
             return self.not_found(site, file);
         }
+        if self.keep_name(site, file).is_err() {
+            return Err(Stop::OutOfMemory);
+        }
         match library.fetch(self.alloc, &mut site.out, file) {
             Ok(Some(bytes)) => self.found(site, file, bytes),
             Ok(None) => self.not_found(site, file),
             Err(stop) => Err(stop),
         }
+    }
+
+    /// The name of the file that is asked for is kept.
+    fn keep_name(&mut self, site: &mut Site, file: &[u8]) -> Result<(), AllocError>
+        ensures ok { OnOk result (state_of self.new site.new ≡ with_asked file.now (state_of self.old site.old)) }
+    {
+        site.facts.asked = Text::new(file.to_vec(self.alloc)?);
+        Ok(())
     }
 
     /// Whether a file isn't the DVI file that is being written.

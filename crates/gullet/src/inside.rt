@@ -15,7 +15,11 @@ fn is_counted(task: &Task) -> bool
     ensures { result ≡ is_counted task.now }
 {
     match task {
-        Task::WholeNumber | Task::If(_) | Task::NameText | Task::Text { .. } => true,
+        Task::WholeNumber
+        | Task::If(_)
+        | Task::NameText
+        | Task::Text { .. }
+        | Task::Definition { .. } => true,
         Task::QuantityValue(_)
         | Task::Undefined(_)
         | Task::Call { .. }
@@ -49,6 +53,7 @@ fn is_file_name(task: &Task) -> bool
         | Task::NameText
         | Task::Input(_)
         | Task::Text { .. }
+        | Task::Definition { .. }
         | Task::Simple(_) => false,
     }
 }
@@ -58,7 +63,7 @@ fn is_closed(task: &Task) -> bool
     ensures { result ≡ is_closed task.now }
 {
     match task {
-        Task::Call { .. } | Task::PassOver(_) | Task::Text { .. } => true,
+        Task::Call { .. } | Task::PassOver(_) | Task::Text { .. } | Task::Definition { .. } => true,
         Task::WholeNumber
         | Task::QuantityValue(_)
         | Task::Undefined(_)

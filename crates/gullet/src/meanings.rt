@@ -116,7 +116,7 @@ fn is_missing(code: u16) -> bool
 }
 
 /// The entry that has the meaning of a name or an active character.
-fn key_of(token: Token) -> Option<Key>
+pub fn key_of(token: Token) -> Option<Key>
     ensures { result ≡ key_of token }
 {
     match token {

@@ -1,18 +1,11 @@
 //! How far a phrase was read.
 
 use crate::calling::Calling;
+use crate::in_text::InText;
 use crate::task::{Glyph, Numerals, Part, Test};
 use conditionals::SkipScan;
 use scan_nums::{IntScan, Number};
 use tokens::Token;
-
-/// A text that is read: its tokens so far, and how many of its braces are open.
-#[derive(Drop)]
-pub struct Gathered {
-    pub expanded: bool,
-    pub tokens: Vec<Token>,
-    pub depth: u64,
-}
 
 /// How far a phrase was read, and what it keeps of what was taken.
 #[derive(Drop)]
@@ -130,10 +123,6 @@ pub enum Progress {
     },
     /// `\input`, in front of what the name tells.
     Named,
-    /// In front of the left brace of a text; in the text; and in front of what an expansion in it tells.
-    TextStart {
-        expanded: bool,
-    },
-    Gathering(Gathered),
-    Inserting(Gathered),
+    /// A text in braces, or a definition.
+    Text(InText),
 }

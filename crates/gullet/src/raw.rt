@@ -30,7 +30,7 @@ type Raw = (Token, bool);
 
 impl Gullet {
     /// The next token as it stands. Where nothing is left, the run ends.
-    fn one_token(&mut self, site: &mut Site) -> Result<Raw, Stop>
+    pub fn one_token(&mut self, site: &mut Site) -> Result<Raw, Stop>
         ensures does { Does result (state_of self.new site.new) (one_token (state_of self.old site.old)) }
     {
         match self.next_raw(site) {
@@ -115,7 +115,7 @@ fn is_named(token: Token) -> bool
 }
 
 /// The text of a token: a name behind the escape character, and a character as it is.
-fn string_text(
+pub fn string_text(
     alloc: Global,
     token: Token,
     names: &NameTable,
@@ -158,7 +158,7 @@ fn size_text(alloc: Global, word: &[u8], size: i32, unit: &[u8]) -> Result<Vec<u
 }
 
 /// The font that a meaning is, by its name and its size; nothing for any other meaning.
-fn font_shown(alloc: Global, meaning: &Meaning, facts: &Facts) -> Result<Vec<u8>, AllocError>
+pub fn font_shown(alloc: Global, meaning: &Meaning, facts: &Facts) -> Result<Vec<u8>, AllocError>
     ensures { IfOk result (λ text. text.items ≡ font_shown meaning.now facts.now) }
 {
     match meaning {

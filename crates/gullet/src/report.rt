@@ -11,7 +11,8 @@ use world::{Printer, Target};
 /// The last column of the terminal that a text may reach where no line is ended in front of it.
 const LAST_COLUMN: usize = 77;
 
-fn show(printer: &mut Printer, bytes: &[u8], newline: i32) -> Result<(), AllocError>
+/// Shows bytes on terminal and log.
+pub fn show(printer: &mut Printer, bytes: &[u8], newline: i32) -> Result<(), AllocError>
     ensures ok { OnOk result (printer.new ≡ shown bytes.now newline printer.old) }
     ensures err { OnErr result (printer.new ≡ printer.old) }
 {
@@ -20,7 +21,7 @@ fn show(printer: &mut Printer, bytes: &[u8], newline: i32) -> Result<(), AllocEr
 
 /// Makes room for a text of some bytes: ends the line where the text would pass the last column, and else
 /// puts a space in front of it, unless terminal and log are at the beginning of a line.
-fn make_gap(printer: &mut Printer, size: usize, newline: i32) -> Result<(), AllocError>
+pub fn make_gap(printer: &mut Printer, size: usize, newline: i32) -> Result<(), AllocError>
     ensures ok { OnOk result (printer.new ≡ with_gap size newline printer.old) }
     ensures err { OnErr result (printer.new ≡ printer.old) }
 {

@@ -1,13 +1,13 @@
 //! A phrase takes one thing more, and says what it wants next.
 #![tactic(auto, using(asking::specs::Asked::asking))]
 
-ghost use Rattle.std.specs.Prelude.{◌≡◌, ◌==◌, [], ◌∷◌, List, Option, IfOk, if◌then◌else◌, true};
+ghost use Rattle.std.specs.Prelude.{◌≡◌, ◌==◌, [], ◌∷◌, List, Option, IfOk, if◌then◌else◌, true, false};
 ghost use Rattle.scan_nums.specs.Number.{first_number};
 ghost use Rattle.scan_nums.specs.Starts.{is_space};
-ghost use Rattle.gullet.specs.Progress.{rest, rest_behind, WhileOpen, Steps, is_plain};
+ghost use Rattle.gullet.specs.Progress.{rest, rest_behind, WhileOpen, Steps, is_plain, is_deciding};
 ghost use Rattle.gullet.specs.Wants.{Taken, done, only, number_told, level_told, word_told, goes_on, holds_told, is_odd, quantity, the_value, the_primitive, the_register, register_list_want, parameter_list_want, test_want, is_relax, may_be_marked, glyph_of, glyph_if, alike, first_by, second_by, cases_before, is_reached, one_less, case_of, cases_want, text_told, second_want, relation_of, holds, decided, false_want, to_fi_want, byte_of, name_by, name_from, letter_of, file_by, file_from, is_end_of_name};
 
-use crate::gathering::{gather, insert, text_start};
+use crate::gathering::take_text;
 use crate::meanings::{expansion, is_looked_at};
 use crate::progress::Progress;
 use crate::task::{Act, Glyph, Numerals, Part, Task, Test, Told, Want};
@@ -27,7 +27,8 @@ pub fn number_told(told: &Told) -> Number
         | Told::GoOn
         | Told::Text(_)
         | Told::Holds(_)
-        | Told::Tokens(_) => Number::Int(0),
+        | Told::Tokens(_)
+        | Told::Definition { .. } => Number::Int(0),
     }
 }
 
@@ -43,7 +44,8 @@ fn level_told(told: &Told) -> u32
         | Told::GoOn
         | Told::Text(_)
         | Told::Holds(_)
-        | Told::Tokens(_) => 0,
+        | Told::Tokens(_)
+        | Told::Definition { .. } => 0,
     }
 }
 
@@ -59,7 +61,8 @@ fn word_told(told: &Told) -> u8
         | Told::GoOn
         | Told::Text(_)
         | Told::Holds(_)
-        | Told::Tokens(_) => 0,
+        | Told::Tokens(_)
+        | Told::Definition { .. } => 0,
     }
 }
 
@@ -75,7 +78,8 @@ fn goes_on(told: &Told) -> bool
         | Told::Level(_)
         | Told::Text(_)
         | Told::Holds(_)
-        | Told::Tokens(_) => false,
+        | Told::Tokens(_)
+        | Told::Definition { .. } => false,
     }
 }
 
@@ -91,7 +95,8 @@ fn holds_told(told: &Told) -> bool
         | Told::Level(_)
         | Told::GoOn
         | Told::Text(_)
-        | Told::Tokens(_) => false,
+        | Told::Tokens(_)
+        | Told::Definition { .. } => false,
     }
 }
 
@@ -107,7 +112,8 @@ pub fn text_told(alloc: Global, told: Told) -> Text
         | Told::Level(_)
         | Told::GoOn
         | Told::Holds(_)
-        | Told::Tokens(_) => Text::new(Vec::new(alloc)),
+        | Told::Tokens(_)
+        | Told::Definition { .. } => Text::new(Vec::new(alloc)),
     }
 }
 
@@ -147,8 +153,46 @@ pub fn step(
     ensures steps { IfOk result (λ r. WhileOpen r.1 (Steps progress token meaning.now told r.0)) }
     ensures plain { IfOk result (λ r. is_plain r.0 ≡ true) }
 {
+    if is_deciding(&progress) {
+        Ok(decide(progress, token, meaning, &told))
+    } else {
+        take_one(alloc, progress, token, meaning, told)
+    }
+}
+
+/// The same of any other phrase than a condition.
+fn take_one(
+    alloc: Global,
+    progress: Progress,
+    token: Token,
+    meaning: &Meaning,
+    told: Told,
+) -> Result<(Progress, Want), AllocError>
+    requires plain { is_plain progress ≡ true }
+    requires other { is_deciding progress ≡ false }
+    ensures want { IfOk result (λ r. r.1 ≡ rest progress token meaning.now told []) }
+    ensures steps { IfOk result (λ r. WhileOpen r.1 (Steps progress token meaning.now told r.0)) }
+    ensures plain { IfOk result (λ r. is_plain r.0 ≡ true) }
+{
     match progress {
-        Progress::Number(_) | Progress::Passing { .. } | Progress::Call(_) => unreachable!(),
+        Progress::Number(_)
+        | Progress::Passing { .. }
+        | Progress::Call(_)
+        | Progress::Opened(_)
+        | Progress::OddNumber { .. }
+        | Progress::Asked { .. }
+        | Progress::FirstGlyph { .. }
+        | Progress::FirstActive { .. }
+        | Progress::SecondGlyph { .. }
+        | Progress::SecondActive { .. }
+        | Progress::CaseNumber { .. }
+        | Progress::Cases { .. }
+        | Progress::CasesLeft { .. }
+        | Progress::FirstNumber { .. }
+        | Progress::Relation { .. }
+        | Progress::SecondNumber { .. }
+        | Progress::PassedOver { .. }
+        | Progress::Left { .. } => unreachable!(),
         Progress::Finishing { back } => Ok((
             Progress::Telling,
             Want::Gives {
@@ -172,76 +216,144 @@ pub fn step(
                 number: number_told(&told),
             }),
         )),
-        Progress::Opened(test) => Ok(opened(test, level_told(&told))),
-        Progress::OddNumber { level } => Ok(decided(level, is_odd(number_told(&told).first()))),
-        Progress::Asked { level } => Ok(decided(level, holds_told(&told))),
-        Progress::FirstGlyph { part, level } => Ok(first_glyph(part, level, token, meaning)),
-        Progress::FirstActive {
-            part,
-            level,
-            active,
-        } => Ok((
-            Progress::SecondGlyph {
-                part,
-                level,
-                first: glyph_if(holds_told(&told), active),
-            },
-            Want::Expanded,
-        )),
-        Progress::SecondGlyph { part, level, first } => Ok(second_glyph(
-            part, level, first, token, meaning,
-        )),
-        Progress::SecondActive {
-            part,
-            level,
-            first,
-            active,
-        } => Ok(decided(
-            level,
-            alike(part, first, glyph_if(holds_told(&told), active)),
-        )),
-        Progress::CaseNumber { level } => Ok(case_number(level, number_told(&told))),
-        Progress::Cases { level, left } => Ok((
-            Progress::CasesLeft { level, left },
-            Want::Act(Act::Leave {
-                word: word_told(&told),
-                level,
-            }),
-        )),
-        Progress::CasesLeft { level, left } => Ok(case_passed(level, left, &told)),
-        Progress::FirstNumber { level } => Ok((
-            Progress::Relation {
-                level,
-                first: number_told(&told),
-            },
-            Want::Expanded,
-        )),
-        Progress::Relation { level, first } => Ok(relation(level, first, token, meaning)),
-        Progress::SecondNumber {
-            level,
-            relation,
-            first,
-        } => Ok(decided(
-            level,
-            holds(relation, first.first(), number_told(&told).first()),
-        )),
-        Progress::PassedOver { level } => Ok((
-            Progress::Left { level },
-            Want::Act(Act::Leave {
-                word: word_told(&told),
-                level,
-            }),
-        )),
-        Progress::Left { level } => Ok(left(level, goes_on(&told))),
         Progress::Met => Ok(met(goes_on(&told))),
         Progress::ToFi => Ok(to_fi(word_told(&told))),
         Progress::Name { text } => name(text, token, meaning),
         Progress::FileStart => file_start(alloc, token, meaning),
         Progress::File { text } => file(text, token, meaning),
         Progress::Named => Ok(last_act(Act::ReadFile(text_told(alloc, told)))),
-        Progress::TextStart { expanded } => Ok(text_start(alloc, expanded, meaning)),
-        Progress::Gathering(text) => gather(alloc, text, token, meaning),
-        Progress::Inserting(text) => insert(text, told),
+        Progress::Text(text) => take_text(alloc, text, token, meaning, told),
+    }
+}
+
+/// Whether a phrase is a condition that is decided, or whose branch is sought.
+fn is_deciding(progress: &Progress) -> bool
+    ensures { result ≡ is_deciding progress.now }
+{
+    match progress {
+        Progress::Opened(_)
+        | Progress::OddNumber { .. }
+        | Progress::Asked { .. }
+        | Progress::FirstGlyph { .. }
+        | Progress::FirstActive { .. }
+        | Progress::SecondGlyph { .. }
+        | Progress::SecondActive { .. }
+        | Progress::CaseNumber { .. }
+        | Progress::Cases { .. }
+        | Progress::CasesLeft { .. }
+        | Progress::FirstNumber { .. }
+        | Progress::Relation { .. }
+        | Progress::SecondNumber { .. }
+        | Progress::PassedOver { .. }
+        | Progress::Left { .. } => true,
+        Progress::Number(_)
+        | Progress::Passing { .. }
+        | Progress::Call(_)
+        | Progress::Finishing { .. }
+        | Progress::Telling
+        | Progress::ExpandFirst
+        | Progress::ExpandSecond { .. }
+        | Progress::Value { .. }
+        | Progress::ListNumber { .. }
+        | Progress::Digits(_)
+        | Progress::RegisterNumber { .. }
+        | Progress::Met
+        | Progress::ToFi
+        | Progress::Name { .. }
+        | Progress::FileStart
+        | Progress::File { .. }
+        | Progress::Named
+        | Progress::Text(_) => false,
+    }
+}
+
+/// A condition that is decided, or whose branch is sought, takes one thing more.
+fn decide(progress: Progress, token: Token, meaning: &Meaning, told: &Told) -> (Progress, Want)
+    requires { is_deciding progress ≡ true }
+    ensures want { result.1 ≡ rest progress token meaning.now told.now [] }
+    ensures steps { WhileOpen result.1 (Steps progress token meaning.now told.now result.0) }
+    ensures plain { is_plain result.0 ≡ true }
+{
+    match progress {
+        Progress::Opened(test) => opened(test, level_told(told)),
+        Progress::OddNumber { level } => decided(level, is_odd(number_told(told).first())),
+        Progress::Asked { level } => decided(level, holds_told(told)),
+        Progress::FirstGlyph { part, level } => first_glyph(part, level, token, meaning),
+        Progress::FirstActive {
+            part,
+            level,
+            active,
+        } => (
+            Progress::SecondGlyph {
+                part,
+                level,
+                first: glyph_if(holds_told(told), active),
+            },
+            Want::Expanded,
+        ),
+        Progress::SecondGlyph { part, level, first } => second_glyph(
+            part, level, first, token, meaning,
+        ),
+        Progress::SecondActive {
+            part,
+            level,
+            first,
+            active,
+        } => decided(
+            level,
+            alike(part, first, glyph_if(holds_told(told), active)),
+        ),
+        Progress::CaseNumber { level } => case_number(level, number_told(told)),
+        Progress::Cases { level, left } => (
+            Progress::CasesLeft { level, left },
+            Want::Act(Act::Leave {
+                word: word_told(told),
+                level,
+            }),
+        ),
+        Progress::CasesLeft { level, left } => case_passed(level, left, told),
+        Progress::FirstNumber { level } => (
+            Progress::Relation {
+                level,
+                first: number_told(told),
+            },
+            Want::Expanded,
+        ),
+        Progress::Relation { level, first } => relation(level, first, token, meaning),
+        Progress::SecondNumber {
+            level,
+            relation,
+            first,
+        } => decided(
+            level,
+            holds(relation, first.first(), number_told(told).first()),
+        ),
+        Progress::PassedOver { level } => (
+            Progress::Left { level },
+            Want::Act(Act::Leave {
+                word: word_told(told),
+                level,
+            }),
+        ),
+        Progress::Left { level } => left(level, goes_on(told)),
+        Progress::Number(_)
+        | Progress::Passing { .. }
+        | Progress::Call(_)
+        | Progress::Finishing { .. }
+        | Progress::Telling
+        | Progress::ExpandFirst
+        | Progress::ExpandSecond { .. }
+        | Progress::Value { .. }
+        | Progress::ListNumber { .. }
+        | Progress::Digits(_)
+        | Progress::RegisterNumber { .. }
+        | Progress::Met
+        | Progress::ToFi
+        | Progress::Name { .. }
+        | Progress::FileStart
+        | Progress::File { .. }
+        | Progress::Named
+        | Progress::Text(_) => unreachable!(),
     }
 }
 

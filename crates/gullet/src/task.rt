@@ -152,6 +152,8 @@ pub enum Task {
     FileName,
     /// A text in braces, whose tokens are taken as they stand, or expanded.
     Text { expanded: bool },
+    /// What stands behind the name in a definition: a parameter text, and the text in braces, expanded or not.
+    Definition { expanded: bool },
     /// A name of which one thing is done.
     Simple(Simple),
 }
@@ -171,6 +173,11 @@ pub enum Told {
     /// Whether what was asked is so.
     Holds(bool),
     Tokens(TokenList),
+    /// The two texts of a macro.
+    Definition {
+        parameters: TokenList,
+        body: TokenList,
+    },
 }
 
 /// What is done for a phrase.

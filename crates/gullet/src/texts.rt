@@ -1,10 +1,10 @@
 //! The texts for which expansion is asked from outside (The TeXbook, chapters 20, 24 and 25; `tex.web`, part 27).
-#![tactic(auto, using(asking::specs::Asked::asking), unfolding(crate::specs::Texts::take_file_name, crate::specs::Texts::take_general_text, crate::specs::Texts::expanded_text))]
+#![tactic(auto, using(asking::specs::Asked::asking), unfolding(crate::specs::Texts::take_file_name, crate::specs::Texts::take_general_text, crate::specs::Texts::expanded_text, crate::specs::Texts::take_definition))]
 
 ghost use Rattle.std.specs.Prelude.{◌≡◌, IfOk};
 ghost use Rattle.asking.specs.Seen.{DoesBeside, DoesBesideBy};
 ghost use Rattle.gullet.specs.State.{state_of};
-ghost use Rattle.gullet.specs.Texts.{take_file_name, take_general_text, expanded_text};
+ghost use Rattle.gullet.specs.Texts.{take_file_name, take_general_text, expanded_text, take_definition, definition_told};
 ghost use Rattle.gullet.specs.Wants.{text_told};
 
 use crate::context::OUTERMOST;
@@ -80,6 +80,47 @@ impl Gullet {
             Ok(told) => Ok(tokens_told(told)),
             Err(stop) => Err(stop),
         }
+    }
+
+    /// The parameter text and the text of the macro whose name stood in front, as `\def` reads them, or as `\edef` does
+    /// where the text is to be expanded. Parameters are arguments of their numbers in both; a left brace behind a sign of
+    /// parameters is the last token of both. The sign is whatever means a character of category 6; signs that come from a
+    /// list behind `\the` in an expanded text stay as they are.
+    ///
+    /// # Errors
+    ///
+    /// Those of `take_general_text`, where a right brace stands in the parameter text that of a missing left brace; the
+    /// trouble of a sign behind which stands nothing that may stand there, and of parameters out of order.
+    pub fn take_definition<L: Library>(
+        &mut self,
+        site: &mut Site,
+        library: &mut L,
+        expanded: bool,
+    ) -> Result<(TokenList, TokenList), Stop>
+        ensures does { DoesBeside L.outside (L.seen library.old) (L.seen library.new) result (state_of self.new site.new)
+            (take_definition L.outside expanded (state_of self.old site.old)) }
+    {
+        match self.read(site, library, OUTERMOST, Task::Definition { expanded }) {
+            Ok(told) => Ok(definition_told(told)),
+            Err(stop) => Err(stop),
+        }
+    }
+}
+
+/// The two texts that are told, empty ones where none are.
+fn definition_told(told: Told) -> (TokenList, TokenList)
+    ensures { result ≡ definition_told told }
+{
+    match told {
+        Told::Definition { parameters, body } => (parameters, body),
+        Told::Done
+        | Told::Number(_)
+        | Told::Word(_)
+        | Told::Level(_)
+        | Told::GoOn
+        | Told::Text(_)
+        | Told::Holds(_)
+        | Told::Tokens(_) => (TokenList::empty(), TokenList::empty()),
     }
 }
 

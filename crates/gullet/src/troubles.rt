@@ -21,7 +21,7 @@ const MOST_RECENT: u8 = 99;
 impl Gullet {
     /// Passes a trouble over: tells it on a line of its own, and counts it. The hundredth since the last end of a
     /// paragraph ends the run.
-    pub(crate) fn pass(&mut self, site: &mut Site, kind: Kind) -> Result<(), Stop>
+    pub fn pass(&mut self, site: &mut Site, kind: Kind) -> Result<(), Stop>
         ensures does { Does result (state_of self.new site.new) (pass kind (state_of self.old site.old)) }
     {
         if site.passed.recent >= MOST_RECENT {
@@ -40,7 +40,7 @@ impl Gullet {
     }
 
     /// Passes over a token without meaning.
-    pub(crate) fn pass_undefined(&mut self, site: &mut Site, token: Token) -> Result<(), Stop>
+    pub fn pass_undefined(&mut self, site: &mut Site, token: Token) -> Result<(), Stop>
         ensures does { Does result (state_of self.new site.new) (pass_undefined token (state_of self.old site.old)) }
     {
         let escape = escape(&site.env);

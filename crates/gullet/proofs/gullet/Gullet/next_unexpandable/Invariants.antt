@@ -1,6 +1,6 @@
 use Rattle.gullet.specs.State.{state_of}
 use Rattle.gullet.proofs.Seeking.{Seeks}
-use Rattle.gullet.proofs.gullet.Gullet.next_expanded.Given as goal
+use Rattle.gullet.proofs.gullet.Gullet.next_unexpandable.Given as goal
 
 -- the next token from here is the next token from the start
 abbrev pub invariant-looks : goal.invariant-looks
