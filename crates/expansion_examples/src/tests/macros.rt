@@ -11,7 +11,7 @@ use std::marker::Brand;
 use std::sync::ledger::{Blank, Ledger};
 use std::test::Fail;
 use steps::Steps;
-use tokens::{Macro, Meaning, NameId, RegKind, TokenList};
+use tokens::{Macro, Meaning, NameId, RegKind, TokenList, codes};
 
 /// A macro: its name, its parameter text and its body. The macro `o` is outer, and `p` is protected.
 pub type Definition = (&'static [u8], &'static [u8], &'static [u8]);
@@ -93,7 +93,15 @@ fn give<L: Ledger>(
 }
 
 /// Names that mean a character, with its category.
-const NAMED: &[(&[u8], u8, u8)] = &[(b"bgroup", 1, b'{'), (b"hash", 6, b'#')];
+const NAMED: &[(&[u8], u8, u8)] = &[
+    (b"bgroup", 1, b'{'),
+    (b"hash", 6, b'#'),
+    (b"shift", 3, b'$'),
+    (b"tab", 4, b'&'),
+    (b"up", 7, b'^'),
+    (b"down", 8, b'_'),
+    (b"blank", 10, b'*'),
+];
 
 /// Gives a name the meaning of a character.
 fn name_character<L: Ledger>(
@@ -159,4 +167,100 @@ pub fn fill(tex: &mut Tex, text: &[u8]) -> Result<(), Fail> {
     let list = tokens_of(tex, text)?;
     fill_counted::<Brand>(&mut tex.site.env, list, Blank::new(1))?;
     Ok(())
+}
+
+/// `\newlinechar`.
+const NEW_LINE_CHAR: Key = Key::Parameter(49);
+
+/// A code of the table of `\uppercase`.
+fn upper_code(byte: u8) -> Key
+    ensures { result ≡ Key.Code 2 byte }
+{
+    Key::Code { table: 2, byte }
+}
+
+/// Has `|` end a line, and gives two characters codes.
+fn set_more<L: Ledger>(env: &mut Env, steps: &mut Steps<L>) -> Result<(), AllocError> {
+    env.assign(
+        NEW_LINE_CHAR,
+        Value::Number(i32::from(b'|')),
+        Scope::Global,
+        steps,
+    )?;
+    env.assign(upper_code(b'q'), Value::Number(300), Scope::Global, steps)?;
+    env.assign(
+        upper_code(b'~'),
+        Value::Number(i32::from(b'*')),
+        Scope::Global,
+        steps,
+    )
+}
+
+/// A meaning that no macro has.
+#[derive(Clone, Copy, Debug)]
+enum Given {
+    Primitive(u16),
+    Character(u8),
+    MathCharacter(u16),
+    /// `\count9`.
+    Count,
+    /// `\toks0`.
+    List,
+}
+
+/// Names with such meanings.
+const GIVEN: &[(&[u8], Given)] = &[
+    (b"cd", Given::Character(b'A')),
+    (b"md", Given::MathCharacter(0x1234)),
+    (b"cr", Given::Count),
+    (b"tr", Given::List),
+    (b"hal", Given::Primitive(codes::HALIGN)),
+];
+
+/// The meaning itself.
+fn meaning_given(given: Given) -> Meaning
+    ensures { (extended : Bool) → IsTrue (names_in_mode extended result) }
+{
+    match given {
+        Given::Primitive(code) => Meaning::Primitive(code),
+        Given::Character(byte) => Meaning::CharDef(byte),
+        Given::MathCharacter(number) => Meaning::MathCharDef(number),
+        Given::Count => Meaning::Register {
+            kind: RegKind::Count,
+            number: 9,
+        },
+        Given::List => Meaning::Register {
+            kind: RegKind::Toks,
+            number: 0,
+        },
+    }
+}
+
+/// Gives a name its meaning.
+fn name_one<L: Ledger>(
+    tex: &mut Tex,
+    name: &[u8],
+    given: Given,
+    steps: &mut Steps<L>,
+) -> Result<(), AllocError> {
+    let id = tex.name(name)?;
+    give(&mut tex.site.env, id, meaning_given(given), steps)
+}
+
+fn name_counted<L: Ledger>(tex: &mut Tex, blank: Blank) -> Result<(), AllocError>
+    requires name { blank.name ≡ L.name }
+    requires parts { blank.parts ≡ L.parts }
+    requires some { 0 < L.parts }
+{
+    let mut steps = Steps::<L>::new(blank);
+    set_more(&mut tex.site.env, &mut steps)?;
+    for (name, given) in GIVEN {
+        name_one(tex, name, *given, &mut steps)?;
+    }
+    Ok(())
+}
+
+/// Has `|` end a line, gives `q` and `~` their codes in the table of `\uppercase`, and names what no macro is.
+pub fn name_more(tex: &mut Tex) -> Result<(), AllocError> {
+    name_counted::<Brand>(tex, Blank::new(1))
 }

@@ -104,7 +104,7 @@ fn gather<L: Library>(tex: &mut Tex, library: &mut L, tokens: &mut Vec<Token>) -
 }
 
 /// How a line ended, as a text.
-fn shown(alloc: Global, stop: Stop) -> Result<Vec<u8>, AllocError> {
+pub fn shown(alloc: Global, stop: Stop) -> Result<Vec<u8>, AllocError> {
     match stop {
         Stop::Trouble(kind) => kind.text(alloc),
         Stop::Capacity(cap) => cap.text().to_vec(alloc),
@@ -242,4 +242,66 @@ pub fn name_and_rest<W: World>(
         Ok(name) => Ok((name, expanded(tex, world)?)),
         Err(stop) => Ok((text_with_end(tex, &[], stop)?, Vec::new(tex.alloc))),
     }
+}
+
+fn definition_by<L: Library>(
+    tex: &mut Tex,
+    library: &mut L,
+    expanded: bool,
+) -> Result<(TokenList, TokenList), Stop> {
+    match tex.gullet.next_expanded(&mut tex.site, library) {
+        Ok(_) => tex.gullet.take_definition(&mut tex.site, library, expanded),
+        Err(stop) => Err(stop),
+    }
+}
+
+fn definition_over<F: Start, W: World>(
+    tex: &mut Tex,
+    world: &mut W,
+    expanded: bool,
+) -> Result<(TokenList, TokenList), Stop>
+    requires told { W.told world.old ≡ F.told }
+{
+    let mut library = Known::<F, &mut W>::new(world);
+    definition_by(tex, &mut library, expanded)
+}
+
+fn definition<W: World>(
+    tex: &mut Tex,
+    world: &mut W,
+    expanded: bool,
+) -> Result<(TokenList, TokenList), Stop> {
+    definition_over::<Brand, W>(tex, world, expanded)
+}
+
+/// The two texts of a macro with an arrow between them.
+fn macro_text(tex: &Tex, parameters: &TokenList, body: &TokenList) -> Result<Vec<u8>, AllocError> {
+    let mut text = text_of(tex, parameters.as_slice())?;
+    text.extend_from_slice(b"->")?;
+    let behind = text_of(tex, body.as_slice())?;
+    text.extend_from_slice(&behind)?;
+    Ok(text)
+}
+
+/// The definition behind the next token, or the trouble in which it ends.
+pub fn definition_shown<W: World>(
+    tex: &mut Tex,
+    world: &mut W,
+    expanded: bool,
+) -> Result<Vec<u8>, AllocError> {
+    match definition(tex, world, expanded) {
+        Ok((parameters, body)) => macro_text(tex, &parameters, &body),
+        Err(stop) => text_with_end(tex, &[], stop),
+    }
+}
+
+/// The definition behind the next token, and what expansion leaves of the rest.
+pub fn definition_and_rest<W: World>(
+    tex: &mut Tex,
+    world: &mut W,
+    expanded: bool,
+) -> Result<(Vec<u8>, Vec<u8>), AllocError> {
+    let shown = definition_shown(tex, world, expanded)?;
+    let rest = self::expanded(tex, world)?;
+    Ok((shown, rest))
 }

@@ -3,6 +3,7 @@ use super::macros::{Definition, define};
 use gullet::{Facts, FontFacts, Gullet, Mode, Passed, Site};
 use save_groups::Env;
 use scaled::{Glue, Order};
+use sqlite_items::Items;
 use std::alloc::{AllocError, Global};
 use std::test::Fail;
 use tokens::{Budget, NameId, Stop, Text, primitive_table};
@@ -45,17 +46,17 @@ fn null_font(alloc: Global) -> Result<FontFacts, AllocError> {
     Ok(FontFacts {
         name: Text::new(b"nullfont".to_vec(alloc)?),
         metrics: None,
-        dimens: Vec::new(alloc),
+        dimens: Items::from_vec(Vec::new(alloc)),
         hyphen: 45,
         skew: -1,
     })
 }
 
 /// All fonts of a run that loads none.
-fn fonts(alloc: Global) -> Result<Vec<FontFacts>, AllocError> {
+fn fonts(alloc: Global) -> Result<Items<FontFacts>, AllocError> {
     let mut fonts = Vec::new(alloc);
     fonts.push(null_font(alloc)?)?;
-    Ok(fonts)
+    Ok(Items::from_vec(fonts))
 }
 
 /// What expansion is told at the start of a run.
@@ -75,6 +76,7 @@ fn facts(alloc: Global) -> Result<Facts, AllocError> {
         interaction: 3,
         open_inputs: [false; 16],
         job: Text::new(Vec::new(alloc)),
+        asked: Text::new(Vec::new(alloc)),
         dvi_open: false,
         used_mag: 0,
         after: None,
@@ -83,9 +85,9 @@ fn facts(alloc: Global) -> Result<Facts, AllocError> {
 }
 
 /// What stands around expansion at the start of a run.
-fn site(alloc: Global) -> Result<Site, AllocError> {
+fn site(alloc: Global, extended: bool) -> Result<Site, AllocError> {
     Ok(Site {
-        env: Env::new(alloc, true)?,
+        env: Env::new(alloc, extended)?,
         names: primitive_table(alloc)?,
         out: Printer::new(alloc),
         budget: Budget::new(STEPS),
@@ -98,17 +100,27 @@ fn site(alloc: Global) -> Result<Site, AllocError> {
 }
 
 /// A line in the environment of the start.
-fn plain(alloc: Global, line: &[u8]) -> Result<Tex, AllocError> {
+fn plain(alloc: Global, extended: bool, line: &[u8]) -> Result<Tex, AllocError> {
     Ok(Tex {
         alloc,
         gullet: Gullet::new(alloc, line.to_vec(alloc)?),
-        site: site(alloc)?,
+        site: site(alloc, extended)?,
     })
 }
 
-/// A line with braces, `#` and `~` as in plain TeX, with these macros, and with nothing behind it.
+/// A line with braces, `#` and `~` as in plain TeX, with these macros, and with nothing behind it, in extended mode.
 pub fn with_macros(alloc: Global, macros: &[Definition], line: &[u8]) -> Result<Tex, Fail> {
-    let mut tex = plain(alloc, line)?;
+    in_mode(alloc, true, macros, line)
+}
+
+/// The same in a mode.
+pub fn in_mode(
+    alloc: Global,
+    extended: bool,
+    macros: &[Definition],
+    line: &[u8],
+) -> Result<Tex, Fail> {
+    let mut tex = plain(alloc, extended, line)?;
     define(&mut tex, macros)?;
     Ok(tex)
 }

@@ -1,0 +1,5 @@
+-- The ledger in which leaving counts.
+use Rattle.commands.proofs.groups.leave.Given as goal
+
+abbrev pub ghosts-leave_counted : goal.ghosts-leave_counted
+ghosts-leave_counted a = record { name = a.blank.name; parts = a.blank.parts }
